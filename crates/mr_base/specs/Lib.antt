@@ -1,0 +1,5 @@
+pub mod Ids
+pub mod Nodes
+pub mod Scripts
+pub mod States
+pub mod Timestamps

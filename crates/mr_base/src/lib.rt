@@ -1,0 +1,32 @@
+//! The types on which every other crate stands: timestamps, ids, bytes, lists, rows, messages, and the
+//! interface of a transaction's script.
+#![tactic(auto)]
+
+mod byte_string;
+mod ids;
+mod list;
+mod memory;
+mod messages;
+mod nodes;
+mod rows;
+mod script;
+mod settings;
+mod spans;
+mod states;
+mod timestamps;
+
+pub use byte_string::Bytes;
+pub use ids::{AttemptId, MsgId, NodeId, RangeId, TxnId};
+pub use list::ListOf;
+pub use memory::{CloneIn, Memory};
+pub use messages::{Body, Fate, Known, Message, Reply, Request};
+pub use nodes::{NodeInfo, NodeSet};
+pub use rows::{Datum, EvalFault, Row, RowList};
+pub use script::{Fed, FixedScript, Need, Script};
+pub use settings::{Kind, Settings};
+pub use spans::{Ask, Pair, Span, Write};
+pub use states::SqlState;
+pub use timestamps::{Reading, Ts, order_of_timestamps};
+
+#[cfg(test)]
+mod tests;

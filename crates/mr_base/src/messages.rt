@@ -1,0 +1,348 @@
+//! Fates of attempts, and the messages between nodes.
+
+use crate::byte_string::Bytes;
+use crate::ids::{AttemptId, MsgId, NodeId, RangeId, TxnId};
+use crate::list::ListOf;
+use crate::memory::{CloneIn, Memory};
+use crate::nodes::NodeSet;
+use crate::spans::{Pair, Span};
+use crate::timestamps::{Reading, Ts};
+use std::alloc::Global;
+
+/// What is known of an attempt's writes.
+#[derive(Clone, Copy, Debug, PartialEq, Eq)]
+pub enum Fate {
+    /// They count at this timestamp.
+    Committed(Ts),
+    /// They never count.
+    Aborted,
+    /// If they ever count, then above this timestamp.
+    Pushed(Ts),
+}
+
+/// The fate of an attempt, as a request carries it.
+#[derive(Clone, Copy, Debug, PartialEq, Eq)]
+pub struct Known {
+    pub attempt: AttemptId,
+    pub fate: Fate,
+}
+
+/// A message in flight. `clock` is the sender's reading; a `down` has none. `boot` is the boot of the
+/// requester, to which a reply goes back.
+#[derive(Debug, PartialEq, Eq, Drop)]
+pub struct Message {
+    pub id: MsgId,
+    pub from: NodeId,
+    pub to: NodeId,
+    pub clock: Option<Reading>,
+    pub txn: TxnId,
+    pub boot: u32,
+    pub body: Body,
+}
+
+#[derive(Debug, PartialEq, Eq, Drop)]
+pub enum Body {
+    Request(Request),
+    Reply(Reply),
+}
+
+/// What a gateway asks of the node of a replica.
+#[derive(Debug, PartialEq, Eq, Drop)]
+pub enum Request {
+    /// Read a span at a timestamp; `limit` is the wall up to which a version above it counts as uncertain.
+    Read {
+        attempt: AttemptId,
+        range: RangeId,
+        span: Span,
+        at: Ts,
+        limit: Option<u64>,
+        fates: ListOf<Known>,
+    },
+    /// Make sure that a span that was read at `from` reads the same at `at`.
+    Refresh {
+        attempt: AttemptId,
+        range: RangeId,
+        span: Span,
+        from: Ts,
+        at: Ts,
+        fates: ListOf<Known>,
+    },
+    /// Lay an intent.
+    Put {
+        attempt: AttemptId,
+        range: RangeId,
+        start: Ts,
+        anchor: RangeId,
+        at: Ts,
+        key: Bytes,
+        value: Option<Bytes>,
+        fates: ListOf<Known>,
+    },
+    /// A reader at `at` asks what becomes of another attempt.
+    PushReader {
+        attempt: AttemptId,
+        range: RangeId,
+        other: AttemptId,
+        at: Ts,
+    },
+    /// A writer asks what becomes of another attempt; the starts tell which of the two is older.
+    PushWriter {
+        attempt: AttemptId,
+        range: RangeId,
+        other: AttemptId,
+        start: Ts,
+        other_start: Ts,
+    },
+    /// Commit the attempt at a timestamp.
+    Commit {
+        attempt: AttemptId,
+        range: RangeId,
+        at: Ts,
+    },
+    /// Abort the attempt.
+    Abort {
+        attempt: AttemptId,
+        range: RangeId,
+    },
+    /// Settle the intents of the attempt at these keys; the fate is committed or aborted.
+    Resolve {
+        attempt: AttemptId,
+        range: RangeId,
+        keys: ListOf<Bytes>,
+        fate: Fate,
+    },
+}
+
+/// What the node of a replica answers.
+#[derive(Debug, PartialEq, Eq, Drop)]
+pub enum Reply {
+    Rows {
+        pairs: ListOf<Pair>,
+    },
+    /// A version within the uncertainty limit.
+    Uncertain {
+        key: Bytes,
+        ts: Ts,
+    },
+    /// An intent of which nothing is known yet.
+    Unknown {
+        key: Bytes,
+        attempt: AttemptId,
+        start: Ts,
+        anchor: RangeId,
+    },
+    /// The timestamp at which the put was laid.
+    Laid {
+        ts: Ts,
+    },
+    /// Another attempt's intent stands in the way of a put.
+    Intent {
+        key: Bytes,
+        attempt: AttemptId,
+        start: Ts,
+        anchor: RangeId,
+    },
+    Refreshed,
+    /// A version above the timestamp that was read at.
+    Newer {
+        ts: Ts,
+    },
+    Fate {
+        attempt: AttemptId,
+        fate: Fate,
+    },
+    /// The attempt is undecided and stays so.
+    Live {
+        attempt: AttemptId,
+    },
+    /// The record is decided.
+    Ended,
+    /// Another attempt aborted the one that wants to commit.
+    Aborted {
+        by: AttemptId,
+    },
+    /// A reader pushed the attempt above this timestamp.
+    Pushed {
+        ts: Ts,
+    },
+    /// The replica may not serve; this is the last lease that it has applied.
+    NotHolder {
+        seq: u32,
+        holder: NodeId,
+        expiration: u64,
+    },
+    /// No majority of the voters runs.
+    NoQuorum {
+        down: NodeSet,
+    },
+    /// The node is stopped.
+    Down,
+}
+
+impl CloneIn for Known {
+    fn clone_in(&self, _alloc: Global) -> Result<Known, Memory> {
+        Ok(*self)
+    }
+}
+
+impl CloneIn for Request {
+    fn clone_in(&self, alloc: Global) -> Result<Request, Memory> {
+        match self {
+            Request::Read {
+                attempt,
+                range,
+                span,
+                at,
+                limit,
+                fates,
+            } => Ok(Request::Read {
+                attempt: *attempt,
+                range: *range,
+                span: span.clone_in(alloc)?,
+                at: *at,
+                limit: *limit,
+                fates: fates.clone_in(alloc)?,
+            }),
+            Request::Refresh {
+                attempt,
+                range,
+                span,
+                from,
+                at,
+                fates,
+            } => Ok(Request::Refresh {
+                attempt: *attempt,
+                range: *range,
+                span: span.clone_in(alloc)?,
+                from: *from,
+                at: *at,
+                fates: fates.clone_in(alloc)?,
+            }),
+            Request::Put {
+                attempt,
+                range,
+                start,
+                anchor,
+                at,
+                key,
+                value,
+                fates,
+            } => {
+                Ok(Request::Put {
+                    attempt: *attempt,
+                    range: *range,
+                    start: *start,
+                    anchor: *anchor,
+                    at: *at,
+                    key: key.clone_in(alloc)?,
+                    value: value.clone_in(alloc)?,
+                    fates: fates.clone_in(alloc)?,
+                })
+            }
+            Request::PushReader {
+                attempt,
+                range,
+                other,
+                at,
+            } => Ok(Request::PushReader {
+                attempt: *attempt,
+                range: *range,
+                other: *other,
+                at: *at,
+            }),
+            Request::PushWriter {
+                attempt,
+                range,
+                other,
+                start,
+                other_start,
+            } => {
+                Ok(Request::PushWriter {
+                    attempt: *attempt,
+                    range: *range,
+                    other: *other,
+                    start: *start,
+                    other_start: *other_start,
+                })
+            }
+            Request::Commit { attempt, range, at } => Ok(Request::Commit {
+                attempt: *attempt,
+                range: *range,
+                at: *at,
+            }),
+            Request::Abort { attempt, range } => Ok(Request::Abort {
+                attempt: *attempt,
+                range: *range,
+            }),
+            Request::Resolve {
+                attempt,
+                range,
+                keys,
+                fate,
+            } => Ok(Request::Resolve {
+                attempt: *attempt,
+                range: *range,
+                keys: keys.clone_in(alloc)?,
+                fate: *fate,
+            }),
+        }
+    }
+}
+
+impl CloneIn for Reply {
+    fn clone_in(&self, alloc: Global) -> Result<Reply, Memory> {
+        match self {
+            Reply::Rows { pairs } => Ok(Reply::Rows {
+                pairs: pairs.clone_in(alloc)?,
+            }),
+            Reply::Uncertain { key, ts } => Ok(Reply::Uncertain {
+                key: key.clone_in(alloc)?,
+                ts: *ts,
+            }),
+            Reply::Unknown {
+                key,
+                attempt,
+                start,
+                anchor,
+            } => Ok(Reply::Unknown {
+                key: key.clone_in(alloc)?,
+                attempt: *attempt,
+                start: *start,
+                anchor: *anchor,
+            }),
+            Reply::Laid { ts } => Ok(Reply::Laid { ts: *ts }),
+            Reply::Intent {
+                key,
+                attempt,
+                start,
+                anchor,
+            } => Ok(Reply::Intent {
+                key: key.clone_in(alloc)?,
+                attempt: *attempt,
+                start: *start,
+                anchor: *anchor,
+            }),
+            Reply::Refreshed => Ok(Reply::Refreshed),
+            Reply::Newer { ts } => Ok(Reply::Newer { ts: *ts }),
+            Reply::Fate { attempt, fate } => Ok(Reply::Fate {
+                attempt: *attempt,
+                fate: *fate,
+            }),
+            Reply::Live { attempt } => Ok(Reply::Live { attempt: *attempt }),
+            Reply::Ended => Ok(Reply::Ended),
+            Reply::Aborted { by } => Ok(Reply::Aborted { by: *by }),
+            Reply::Pushed { ts } => Ok(Reply::Pushed { ts: *ts }),
+            Reply::NotHolder {
+                seq,
+                holder,
+                expiration,
+            } => Ok(Reply::NotHolder {
+                seq: *seq,
+                holder: *holder,
+                expiration: *expiration,
+            }),
+            Reply::NoQuorum { down } => Ok(Reply::NoQuorum { down: *down }),
+            Reply::Down => Ok(Reply::Down),
+        }
+    }
+}
