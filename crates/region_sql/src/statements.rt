@@ -1,0 +1,26 @@
+//! Statements of both kinds, lists of them, and why a text is none.
+
+use crate::region_statements::RegionStatement;
+use crate::row_statements::RowStatement;
+use mr_base::ListOf;
+
+/// One statement.
+#[derive(Debug, PartialEq, Eq, Drop)]
+pub enum Statement {
+    Region(RegionStatement),
+    Row(RowStatement),
+}
+
+/// A transaction's row statements, in their order.
+pub type List = ListOf<RowStatement>;
+
+/// Why a text is no statement or no list.
+#[derive(Clone, Copy, Debug, PartialEq, Eq)]
+pub enum ParseFault {
+    /// No form fits; `at` is the place in bytes just after the longest run of tokens with which some
+    /// form begins.
+    Syntax { at: usize },
+    /// The list has more than 64 statements.
+    TooMany,
+    Memory,
+}

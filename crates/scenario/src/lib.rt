@@ -1,0 +1,12 @@
+//! The lines of a scenario, the entries of a journal, and the text of both.
+#![tactic(auto)]
+
+mod entries;
+mod events;
+mod journal;
+mod lines;
+
+pub use entries::{How, JournalEntry, LeaseWhy, Shown, SqlWhy, StatementResult, Verb, Why};
+pub use events::Event;
+pub use journal::Journal;
+pub use lines::{Line, LineFault, Mode};

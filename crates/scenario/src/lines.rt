@@ -1,0 +1,35 @@
+//! What a line says, why a line is refused, and what a report shows.
+
+use crate::events::Event;
+use mr_base::{Bytes, NodeInfo, Settings};
+
+/// A line of a scenario.
+#[derive(Debug, PartialEq, Eq, Drop)]
+pub enum Line {
+    /// An empty line or a comment.
+    Skipped,
+    Cluster(Settings),
+    /// A node with its physical clock in milliseconds.
+    Node(NodeInfo, u64),
+    /// A region statement before `begin`.
+    Sql(Bytes),
+    Event(Event),
+}
+
+/// Why a line is refused: the fault S1 to S12, by its number, or want of memory.
+#[derive(Clone, Copy, Debug, PartialEq, Eq)]
+pub enum LineFault {
+    S(u8),
+    Memory,
+}
+
+/// What of a journal is shown.
+#[derive(Clone, Copy, Debug, PartialEq, Eq)]
+pub enum Mode {
+    /// Answers and the lines that a scenario asks for.
+    Answers,
+    /// Every entry.
+    Trace,
+    /// The counts at the end alone.
+    Summary,
+}
