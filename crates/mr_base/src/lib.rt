@@ -13,6 +13,7 @@ mod script;
 mod settings;
 mod spans;
 mod states;
+mod text_parts;
 mod timestamps;
 
 pub use byte_string::Bytes;
@@ -26,6 +27,7 @@ pub use script::{Fed, FixedScript, Need, Script};
 pub use settings::{Kind, Settings};
 pub use spans::{Ask, Pair, Span, Write};
 pub use states::SqlState;
+pub use text_parts::{after_head, before_tail, round_blank};
 pub use timestamps::{Reading, Ts, order_of_timestamps};
 
 #[cfg(test)]
