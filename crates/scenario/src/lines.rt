@@ -1,7 +1,7 @@
 //! What a line says, why a line is refused, and what a report shows.
 
 use crate::events::Event;
-use mr_base::{Bytes, NodeInfo, Settings};
+use mr_base::{Bytes, Memory, NodeInfo, Settings};
 
 /// A line of a scenario.
 #[derive(Debug, PartialEq, Eq, Drop)]
@@ -32,4 +32,15 @@ pub enum Mode {
     Trace,
     /// The counts at the end alone.
     Summary,
+}
+
+impl From<Memory> for LineFault {
+    ghost use Rattle.std.specs.Prelude.{◌≡◌};
+    ghost use Rattle.scenario.specs.declared.lines.LineFault.TheVariants.{Memory};
+
+    ghost from_gives = { λ _ e. e ≡ Memory };
+
+    fn from(_e: Memory) -> LineFault {
+        LineFault::Memory
+    }
 }
