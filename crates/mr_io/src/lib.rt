@@ -2,8 +2,11 @@
 //! the standard input and output.
 #![tactic(auto)]
 
+mod calls;
+mod mem_source;
 mod sink;
 mod source;
 
+pub use mem_source::{WholeSource};
 pub use sink::{Sink, write_all};
 pub use source::{Failed, Source};
