@@ -1,5 +1,5 @@
 -- What is told of bytes, piece after piece.
-use Rattle.std.proofs.Common.{◌≡◌, ℕ, ◌+◌, ◌<◌, ◌⊎◌, ◌≤◌, List, ◌++◌, [], take, drop, length, refl, ap, sym, ◌∙◌, append_assoc, ◌-◌, length-drop, Option, Some, None, arith, IfSome}
+use Rattle.std.proofs.Common.{◌≡◌, ℕ, ◌+◌, ◌≤◌, List, ◌++◌, [], take, drop, length, refl, ap, sym, ◌∙◌, append_assoc, ◌-◌, length-drop, Option, Some, None, arith, IfSome}
 use Rattle.std.proofs.Math.Seq.{take-add, take-length}
 use Rattle.std.proofs.lemmas.List.{append-nil}
 use Rattle.std.proofs.lemmas.Grind.{common_steps}

@@ -1,9 +1,9 @@
 //! The calls that a source or sink in memory is told to fail.
 
-ghost use Rattle.std.specs.Prelude.{◌≡◌, ◌↔◌, IfOk, IsTrue, Contains};
+ghost use Rattle.std.specs.Prelude.{◌≡◌, ◌↔◌, ◌≤◌, IfOk, IsTrue, Contains};
 ghost use Rattle.mr_io.specs.Faults.{next_count};
 
-use crate::source::Failed;
+use crate::faults::{Failed, count_fault};
 use mr_base::{ListOf, Memory};
 use std::alloc::Global;
 
@@ -38,10 +38,10 @@ impl Calls {
 
     /// Counts a fault.
     pub fn fail(&mut self) -> Failed
-        ensures { self.new ≡ record self.old { faults = next_count self.old.faults } }
+        ensures counted { self.new ≡ record self.old { faults = next_count self.old.faults } }
+        ensures never_falls { self.old.faults ≤ self.new.faults }
     {
-        self.faults = self.faults.saturating_add(1);
-        Failed
+        count_fault(&mut self.faults)
     }
 }
 

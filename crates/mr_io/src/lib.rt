@@ -3,10 +3,16 @@
 #![tactic(auto)]
 
 mod calls;
+mod faults;
+mod mem_sink;
 mod mem_source;
 mod sink;
 mod source;
+mod std_streams;
 
-pub use mem_source::{WholeSource};
+pub use faults::Failed;
+pub use mem_sink::{CountSink, MemSink};
+pub use mem_source::{MemSource, WholeSource};
 pub use sink::{Sink, write_all};
-pub use source::{Failed, Source};
+pub use source::Source;
+pub use std_streams::{StdSink, StdSource};

@@ -5,7 +5,7 @@ ghost use Rattle.std.specs.Io.KnownBytes.{append_known};
 ghost use Rattle.mr_io.specs.Faults.{CountsFault};
 ghost use Rattle.mr_io.specs.Pieces.{WrotePrefix};
 
-use crate::source::Failed;
+use crate::faults::Failed;
 
 /// A place to which bytes are written, piece by piece, and which counts the writes that fail.
 pub trait Sink {

@@ -4,9 +4,7 @@ ghost use Rattle.std.specs.Prelude.{◌≡◌, ◌<◌, ◌≤◌, IfOk, OnErr, 
 ghost use Rattle.std.specs.Io.KnownBytes.{IsAtEnd, prepend_known};
 ghost use Rattle.mr_io.specs.Faults.{CountsFault};
 
-/// A read or a write failed. Nothing was read or written, and the fault was counted.
-#[derive(Clone, Copy, Debug, PartialEq, Eq)]
-pub struct Failed;
+use crate::faults::Failed;
 
 /// A place from which bytes are read, piece by piece, and which counts the reads that fail.
 pub trait Source {

@@ -1,4 +1,4 @@
-use Rattle.std.proofs.Common.{arith, ap, ◌∙◌}
+use Rattle.std.proofs.Common.{arith}
 use Rattle.std.proofs.lemmas.Grind.{common_steps}
 use Rattle.mr_io.proofs.Told.{append_known-step}
 use Rattle.mr_io.proofs.sink.write_all.Goals as goal
