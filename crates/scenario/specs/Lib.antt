@@ -1,2 +1,10 @@
+pub mod AnswerText
+pub mod CountsText
+pub mod EntryText
 pub mod Lines
+pub mod LogText
+pub mod MessageText
 pub mod Seen
+pub mod StateText
+pub mod StepText
+pub mod Text

@@ -1,12 +1,20 @@
 //! The lines of a scenario, the entries of a journal, and the text of both.
 #![tactic(auto)]
 
+mod answers;
+mod buffer;
 mod entries;
 mod events;
 mod journal;
 mod lines;
 mod reader;
 mod world;
+mod logs;
+mod messages;
+mod parts;
+mod states;
+mod steps;
+mod text;
 
 pub use entries::{How, JournalEntry, LeaseWhy, Shown, SqlWhy, StatementResult, Verb, Why};
 pub use events::Event;
@@ -14,3 +22,4 @@ pub use journal::Journal;
 pub use lines::{Line, LineFault, Mode};
 pub use reader::{Expected, Scenario};
 pub use world::{NoWorld, World};
+pub use text::text_of;
