@@ -4,6 +4,7 @@ pub mod EntryText
 pub mod Lines
 pub mod LogText
 pub mod MessageText
+pub mod Names
 pub mod Seen
 pub mod StateText
 pub mod StepText

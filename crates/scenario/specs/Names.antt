@@ -1,0 +1,19 @@
+use Rattle.std.specs.Prelude.{◌≡◌, List, [], ◌∷◌}
+use Rattle.mr_base.specs.declared.ids.TxnId.{TxnId}
+use Rattle.scenario.specs.declared.entries.JournalEntry.{JournalEntry}
+use Rattle.scenario.specs.declared.entries.JournalEntry.TheVariants as entry
+
+-- An entry names a transaction.
+abbrev pub Names : JournalEntry → TxnId → Type 0
+Names (entry.Begin txn attempt gateway start limit) t = t ≡ txn
+Names (entry.Retry txn attempt cause) t = t ≡ txn
+Names (entry.Ack txn ts results) t = t ≡ txn
+Names (entry.Fault txn ts state) t = t ≡ txn
+Names (entry.Refuse txn why) t = t ≡ txn
+Names (entry.Lost txn) t = t ≡ txn
+Names _ t = ⊥
+
+-- Each entry names only transactions of which P holds.
+abbrev pub NamesOnly : (TxnId → Type 0) → List JournalEntry → Type 0
+NamesOnly P [] = Unit {0}
+NamesOnly P (e ∷ es) = ((t : TxnId) → Names e t → P t) × NamesOnly P es

@@ -1,0 +1,31 @@
+use Rattle.std.specs.Prelude.{◌≡◌, ◌≢◌, ℕ, List, [], ◌∷◌, ◌++◌}
+use Rattle.mr_base.specs.declared.ids.TxnId.{TxnId}
+use Rattle.scenario.specs.Lines.{IsTaken}
+use Rattle.scenario.specs.Names.{NamesOnly}
+use Rattle.scenario.specs.declared.entries.JournalEntry.{JournalEntry}
+use Rattle.scenario.specs.declared.events.Event.{Event}
+use Rattle.scenario.specs.declared.events.Event.TheVariants as events
+use Rattle.sim_cluster.specs.View.{View}
+
+-- The lines that the cluster takes: `begin` at first, and then transactions.
+abbrev pub IsStep : View → Event → Type 0
+IsStep c events.Begin = c.journal ≡ []
+IsStep c (events.Txn t gateway kind list) = (c.journal ≢ []) × IsTaken list
+IsStep c _ = ⊥
+
+-- The transaction whose line this is, if it is one.
+abbrev pub IsOf : Event → TxnId → Type 0
+IsOf (events.Txn t gateway kind list) u = u ≡ t
+IsOf _ u = ⊥
+
+-- The journal has new entries, which name only transactions of which P holds.
+pub record Continues (old : View) (P : TxnId → Type 0) (new : View) : Type 0 where
+  pub settings : new.settings ≡ old.settings
+  pub physical : new.physical ≡ old.physical
+  pub fresh : List JournalEntry
+  pub journal : new.journal ≡ fresh ++ old.journal
+  pub names : NamesOnly P fresh
+
+-- The journal has the entries of a line besides, which name no other transaction than that of the line.
+abbrev pub GoesOn : View → Event → View → Type 0
+GoesOn old e new = Continues old (IsOf e) new

@@ -1,0 +1,134 @@
+//! The cluster and its journal.
+
+ghost use Rattle.std.specs.Prelude.{◌≡◌, ◌<◌, ◌^◌, ◌++◌, [], reverse, OnOk, OnErr};
+ghost use Rattle.scenario.specs.Lines.{IsTaken};
+ghost use Rattle.sim_cluster.specs.Bounds.{AreSettings};
+ghost use Rattle.sim_cluster.specs.Cluster.{IsStep, GoesOn, Continues};
+
+use std::alloc::Global;
+use std::marker::Model;
+
+use mr_base::{AttemptId, Memory, Settings, TxnId};
+use region_sql::{FirstStatement, first_statement};
+use scenario::{Event, Journal, JournalEntry};
+
+use crate::clock::Clock;
+use crate::steps::{begin_steps, transaction_steps};
+use crate::transaction::Begun;
+
+/// A cluster of one node with one range. Its journal is all that it keeps of its log.
+#[derive(Drop)]
+pub struct Cluster {
+    alloc: Global,
+    settings: Settings,
+    clock: Clock,
+    attempts: u32,
+    journal: Vec<JournalEntry>,
+}
+
+impl Model for Cluster {
+    ghost use Rattle.std.specs.Prelude.{reverse};
+    ghost use Rattle.sim_cluster.specs.Bounds.{IsSound};
+    ghost use Rattle.sim_cluster.specs.View.{View};
+
+    ghost Value = { View };
+
+    ghost view = { λ c. record { settings = c.settings; physical = c.clock.physical; journal = reverse c.journal.items } };
+
+    ghost invariant = { λ c. IsSound c.settings c.clock.physical c.clock.kept c.attempts c.journal.items };
+}
+
+impl Cluster {
+    /// A cluster whose node has this physical clock, in milliseconds, before its range is made.
+    pub fn new(alloc: Global, settings: Settings, clock: u64) -> Cluster
+        requires settings { AreSettings settings }
+        requires clock { clock < 2 ^ 53 }
+        ensures { result ≡ record { settings = settings; physical = clock; journal = [] } }
+    {
+        Cluster {
+            alloc,
+            settings,
+            clock: Clock::new(clock),
+            attempts: 0,
+            journal: Vec::new(alloc),
+        }
+    }
+
+    /// The entries made so far, the oldest first.
+    pub fn journal(&self) -> &[JournalEntry]
+        ensures { reverse result.now ≡ self.now.journal }
+    {
+        self.journal.as_slice()
+    }
+
+    /// The entries of `before`, the oldest first, and then the cluster's, without taking memory.
+    pub fn into_journal(self, before: Vec<JournalEntry>) -> Journal
+        ensures { result ≡ self.journal ++ reverse before.items }
+    {
+        let Cluster {
+            alloc: _,
+            settings: _,
+            clock: _,
+            attempts: _,
+            journal,
+        } = self;
+        Journal::of_parts(before, journal)
+    }
+
+    /// Makes the entries of a line, after those made so far. Want of memory leaves the cluster as it was.
+    pub fn step(&mut self, line: u32, e: &Event) -> Result<(), Memory>
+        requires { IsStep self.old e.now }
+        ensures ok { OnOk result (GoesOn self.old e.now self.new) }
+        ensures err { OnErr result (self.new ≡ self.old) }
+    {
+        match e {
+            Event::Begin => self.begin(line),
+            Event::Txn { txn, list, .. } => self.transaction(line, *txn, list.as_slice()),
+            _ => unreachable!(),
+        }
+    }
+
+    fn begin(&mut self, line: u32) -> Result<(), Memory>
+        ensures ok { OnOk result (GoesOn self.old Event.Begin self.new) }
+        ensures err { OnErr result (self.new ≡ self.old) }
+    {
+        let expiration = self.clock.reading().wall + self.settings.lease;
+        let mut steps = begin_steps(self.alloc, line, expiration)?;
+        self.journal.append(&mut steps)?;
+        Ok(())
+    }
+
+    fn transaction(&mut self, line: u32, txn: TxnId, list: &[u8]) -> Result<(), Memory>
+        requires { IsTaken list.now }
+        ensures ok { OnOk result (Continues self.old (λ t. t ≡ txn) self.new) }
+        ensures err { OnErr result (self.new ≡ self.old) }
+    {
+        let Some(statement) = first_statement(list) else {
+            unreachable!();
+        };
+        let Some(attempt) = self.attempts.checked_add(1) else {
+            return Err(Memory);
+        };
+        let start = self.clock.next();
+        let begun = Begun {
+            txn,
+            attempt: AttemptId(attempt),
+            start: start.owned_by(attempt),
+            limit: start.wall + self.settings.max_offset,
+        };
+        let journal = self.journal.as_slice();
+        let mut steps = transaction_steps(
+            self.alloc,
+            journal,
+            line,
+            begun,
+            statement,
+            self.clock,
+            self.attempts,
+        )?;
+        self.journal.append(&mut steps)?;
+        self.clock.kept = start;
+        self.attempts = attempt;
+        Ok(())
+    }
+}

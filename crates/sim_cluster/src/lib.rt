@@ -1,0 +1,9 @@
+//! The simulated cluster: one node, one range, one table.
+#![tactic(auto)]
+
+mod clock;
+mod cluster;
+mod laying;
+mod reading;
+mod steps;
+mod transaction;
