@@ -3,6 +3,8 @@
 ghost use Rattle.std.specs.Prelude.{◌≤◌, IfOk};
 
 use super::*;
+use mr_base::Memory;
+use std::alloc::Global;
 use std::io::{self, ErrorKind, Read, Write};
 use std::test::Fail;
 
@@ -68,27 +70,31 @@ fn copy<S: Source, K: Sink>(source: &mut S, sink: &mut K) -> Result<(), Failed> 
     Ok(())
 }
 
+/// Whether all bytes pass, and these are written, where these calls fail and there is this much room.
+fn passes(
+    alloc: Global,
+    bytes: &[u8],
+    failing: (&[u32], &[u32]),
+    room: usize,
+    written: &[u8],
+) -> Result<bool, Memory> {
+    let mut source = MemSource::new(alloc, bytes, failing.0)?;
+    let mut sink = MemSink::new(alloc, room, failing.1)?;
+    let all = copy(&mut source, &mut sink).is_ok();
+    Ok(all == (written.len() == bytes.len()) && sink.written() == written)
+}
+
 #[test]
 fn pieces_pass_through_memory(rt: HostRuntime) -> Result<(), Fail> {
     let alloc = rt.alloc();
-    // The bytes, the reads and writes that fail, the room, and what was written in the end.
-    let cases: [(&[u8], &[u32], &[u32], usize, &[u8]); 5] = [
-        (b"", &[], &[], 0, b""),
-        (b"abcde", &[], &[], 5, b"abcde"),
-        (b"abcde", &[1, 3, 3], &[], 9, b"abcde"),
-        (b"abcde", &[], &[2], 5, b"ab"),
-        (b"abcde", &[], &[], 3, b"abc"),
-    ];
-    for (bytes, failing_reads, failing_writes, room, written) in cases {
-        let mut source = MemSource::new(alloc, bytes, failing_reads)?;
-        let mut sink = MemSink::new(alloc, room, failing_writes)?;
-        let result = copy(&mut source, &mut sink);
-        assert_eq!(rt; result.is_ok(), written.len() == bytes.len());
-        assert!(rt; sink.written() == written);
-        let mut counted = CountSink::new();
-        assert!(rt; copy(&mut WholeSource::new(alloc, bytes)?, &mut counted).is_ok());
-        assert_eq!(rt; counted.count(), bytes.len() as u64);
-    }
+    assert!(rt; passes(alloc, b"", (&[], &[]), 0, b"")?);
+    assert!(rt; passes(alloc, b"abcde", (&[], &[]), 5, b"abcde")?);
+    assert!(rt; passes(alloc, b"abcde", (&[1, 3, 3], &[]), 9, b"abcde")?);
+    assert!(rt; passes(alloc, b"abcde", (&[], &[2]), 5, b"ab")?);
+    assert!(rt; passes(alloc, b"abcde", (&[], &[]), 3, b"abc")?);
+    let mut counted = CountSink::new();
+    let copied = copy(&mut WholeSource::new(alloc, b"abcde")?, &mut counted);
+    assert!(rt; copied.is_ok() && counted.count() == 5);
     Ok(())
 }
 
