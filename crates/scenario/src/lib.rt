@@ -3,6 +3,7 @@
 
 mod answers;
 mod buffer;
+mod counts;
 mod entries;
 mod events;
 mod journal;
@@ -14,6 +15,7 @@ mod states;
 mod steps;
 mod text;
 
+pub use counts::counts_of;
 pub use entries::{How, JournalEntry, LeaseWhy, Shown, SqlWhy, StatementResult, Verb, Why};
 pub use events::Event;
 pub use journal::Journal;
