@@ -21,3 +21,6 @@ pub use events::Event;
 pub use journal::Journal;
 pub use lines::{Line, LineFault, Mode};
 pub use text::text_of;
+
+#[cfg(test)]
+mod tests;
