@@ -1,6 +1,6 @@
 -- The lines of answers: what became of transactions. (Source: this project's profile; the codes after
 -- PostgreSQL's list of SQLSTATE codes.)
-use Rattle.std.specs.Prelude.{ℕ, List, [], ◌∷◌, ◌++◌, codes, decimal}
+use Rattle.std.specs.Prelude.{ℕ, List, ◌++◌, codes, decimal}
 use Rattle.std.specs.List.{flat_map}
 use Rattle.mr_base.specs.Ids.{attempt_text, message_text, range_text}
 use Rattle.mr_base.specs.States.{code_of}

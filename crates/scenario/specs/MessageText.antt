@@ -1,6 +1,6 @@
 -- Bodies of messages, as the trace shows them. (Source: this project's profile.)
 use Rattle.std.specs.Prelude.{ℕ, List, ◌++◌, codes, decimal}
-use Rattle.mr_base.specs.Ids.{node_text, range_text, attempt_text}
+use Rattle.mr_base.specs.Ids.{range_text, attempt_text}
 use Rattle.mr_base.specs.Timestamps.{ts_text}
 use Rattle.mr_base.specs.declared.ids.AttemptId.{AttemptId}
 use Rattle.mr_base.specs.declared.ids.RangeId.{RangeId}

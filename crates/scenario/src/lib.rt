@@ -3,6 +3,7 @@
 
 mod answers;
 mod buffer;
+mod counts;
 mod entries;
 mod events;
 mod journal;
@@ -16,6 +17,7 @@ mod states;
 mod steps;
 mod text;
 
+pub use counts::counts_of;
 pub use entries::{How, JournalEntry, LeaseWhy, Shown, SqlWhy, StatementResult, Verb, Why};
 pub use events::Event;
 pub use journal::Journal;
@@ -23,3 +25,6 @@ pub use lines::{Line, LineFault, Mode};
 pub use reader::{Expected, Scenario};
 pub use world::{NoWorld, World};
 pub use text::text_of;
+
+#[cfg(test)]
+mod tests;

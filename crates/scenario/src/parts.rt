@@ -1,4 +1,4 @@
-//! Parts of lines: values of columns, hexadecimal, and lists of nodes.
+//! Parts of lines: names, values of columns, numbers, and lists of nodes.
 
 ghost use Rattle.std.specs.Prelude.{◌≡◌, ◌++◌, IfOk, OnOk};
 ghost use Rattle.scenario.specs.Text.{quoted, members, name_of, nodes_text, number_or_dash, reading_text};
