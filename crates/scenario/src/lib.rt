@@ -22,7 +22,7 @@ pub use entries::{How, JournalEntry, LeaseWhy, Shown, SqlWhy, StatementResult, V
 pub use events::Event;
 pub use journal::Journal;
 pub use lines::{Line, LineFault, Mode};
-pub use reader::{Expected, Scenario};
+pub use reader::{Expected, Scenario, standard_settings};
 pub use world::{NoWorld, World};
 pub use text::text_of;
 

@@ -44,7 +44,7 @@ impl Model for Scenario {
 }
 
 /// The settings where a `cluster` line names none.
-fn standard_settings() -> Settings
+pub fn standard_settings() -> Settings
     ensures { result ≡ the_standard_settings }
 {
     Settings {
@@ -145,6 +145,13 @@ impl Scenario {
             expected: Expected::Cluster,
             names: ListOf::new(alloc),
         }
+    }
+
+    /// The names of the transactions, in the order in which their lines were read.
+    pub fn names(&self) -> &[Bytes]
+        ensures { result.now ≡ self.now.names }
+    {
+        self.names.as_slice()
     }
 
     /// The name of a transaction.

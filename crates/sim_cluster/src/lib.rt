@@ -7,3 +7,6 @@ mod laying;
 mod reading;
 mod steps;
 mod transaction;
+
+pub use cluster::Cluster;
+pub use laying::{has_passed, laid_at};
