@@ -1,0 +1,4 @@
+pub mod Tokens
+pub mod Forms
+pub mod Reading
+pub mod Grammar

@@ -4,9 +4,13 @@
 mod region_statements;
 mod row_statements;
 mod statements;
+mod stuck;
+mod token_readers;
+mod tokens;
 
 pub use region_statements::{ColumnKey, ColumnType, Goal, Item, Locality, RegionStatement};
 pub use row_statements::{
     Comparison, Literal, Literals, RowStatement, Target, Term, Value, Wanted,
 };
 pub use statements::{List, ParseFault, Statement};
+pub use tokens::{Key, Sign, Soft, Token};

@@ -1,0 +1,3 @@
+pub mod Plain
+pub mod Good
+pub mod Exact
