@@ -1,3 +1,5 @@
 pub mod Plain
 pub mod Good
 pub mod Exact
+pub mod Loops
+pub mod Firsts

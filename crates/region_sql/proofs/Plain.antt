@@ -30,6 +30,10 @@ pub or-false : (a b : Bool) → (a || b) ≡ false → (a ≡ false) × (b ≡ f
 or-false true b e = absurd cc
 or-false false b e = (refl, e)
 
+pub or-no : (a : Bool) → (a || false) ≡ true → a ≡ true
+or-no true e = refl
+or-no false e = absurd cc
+
 pub has-append : (xs ys : List ℕ) (k : ℕ) → has (xs ++ ys) k ≡ (has xs k || has ys k)
 has-append [] ys k = refl
 has-append (x ∷ xs) ys k = elim (nat_eq x k) as (λ b. (b || has (xs ++ ys) k) ≡ ((b || has xs k) || has ys k)) [ true ↦ refl | false ↦ has-append xs ys k ]

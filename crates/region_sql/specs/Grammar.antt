@@ -1,6 +1,8 @@
 -- The forms of statements. Source: CockroachDB's documentation of SQL statements and PostgreSQL's
 -- forms of the same names, in this project's profile.
 use Rattle.std.specs.Prelude.{◌≡◌, ℕ, Bool, true, false, cond, List, [], ◌∷◌, ◌++◌, Option, Some, None, nat_eq, ℤ}
+use Rattle.region_sql.specs.declared.row_readers.Change.{Change}
+use Rattle.region_sql.specs.declared.row_readers.Change.TheVariants as changes
 use Rattle.region_sql.specs.declared.row_statements.Comparison.{Comparison}
 use Rattle.region_sql.specs.declared.row_statements.Comparison.TheVariants as comparisons
 use Rattle.region_sql.specs.declared.row_statements.Literal.{Literal}
@@ -135,19 +137,15 @@ row = inside literal_list
 unfoldable pub row_list : Form (List (List Literal))
 row_list = with_commas row
 
--- What is done to a column.
-pub data Change : Type 0 where
-  plus : ℤ → Change
-  minus : ℤ → Change
-
 -- + integer | - integer
 unfoldable pub change : Form Change
-change = either (mark sign.Plus ▸ as_value integer plus) (either (mark sign.Minus ▸ as_value integer minus) (as_value taken_away minus))
+change = either (mark sign.Plus ▸ as_value integer changes.Plus) (either (mark sign.Minus ▸ as_value integer changes.Minus) (as_value taken_away changes.Minus))
 
+-- The value of a column that is changed, or taken as it stands.
 abbrev pub changed : List ℕ → Option Change → Value
 changed column None = values.Column column
-changed column (Some (plus n)) = values.Plus column n
-changed column (Some (minus n)) = values.Minus column n
+changed column (Some (changes.Plus n)) = values.Plus column n
+changed column (Some (changes.Minus n)) = values.Minus column n
 
 -- literal | name | name + integer | name - integer
 unfoldable pub value : Form Value

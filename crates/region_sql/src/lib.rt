@@ -1,7 +1,9 @@
 //! Region statements, row statements and their values.
 #![tactic(auto)]
 
+mod listing;
 mod region_statements;
+mod row_readers;
 mod row_statements;
 mod statements;
 mod stuck;

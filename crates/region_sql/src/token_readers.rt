@@ -1,8 +1,8 @@
 //! Readers of single tokens. Each answers what it read and the tokens after it.
 
-ghost use Rattle.std.specs.Prelude.{◌≡◌, [], ◌∷◌, nat_eq};
+ghost use Rattle.std.specs.Prelude.{◌≡◌, [], ◌∷◌, true, false, drop, IfSome, IfNone};
 ghost use Rattle.region_sql.specs.Grammar.{word, mark, soft, equals, name, literal, compare, integer, taken_away};
-ghost use Rattle.region_sql.specs.Reading.{Gives, parse, begins};
+ghost use Rattle.region_sql.specs.Reading.{Gives, parse, begins, first};
 ghost use Rattle.region_sql.specs.Tokens.{key_number, soft_number, sign_number};
 
 use crate::row_statements::{Comparison, Literal};
@@ -18,6 +18,54 @@ pub(crate) fn begins_with_key(tokens: &[Token], key: Key) -> bool
     match tokens {
         [Token::Key(found), ..] => *found as u8 == key as u8,
         _ => false,
+    }
+}
+
+/// Whether the first token is this sign.
+pub(crate) fn begins_with_sign(tokens: &[Token], sign: Sign) -> bool
+    ensures { result ≡ begins (sign_number sign ∷ []) tokens.now }
+{
+    match tokens {
+        [Token::Sign(found), ..] => *found as u8 == sign as u8,
+        _ => false,
+    }
+}
+
+/// Whether the first token is a literal.
+#[tactic(auto, unfolding(crate::specs::Grammar::literal))]
+pub(crate) fn begins_with_literal(tokens: &[Token]) -> bool
+    ensures { result ≡ begins (first literal) tokens.now }
+{
+    matches!(
+        tokens,
+        [
+            Token::Integer(_) | Token::Negative { .. } | Token::Text(_) | Token::Bool(_),
+            ..
+        ]
+    )
+}
+
+/// The tokens after this key word, where it is the first token.
+pub(crate) fn after_key(tokens: &[Token], key: Key) -> Option<&[Token]>
+    ensures found { IfSome result (λ rest. (begins (key_number key ∷ []) tokens.now ≡ true)
+        × (rest.now ≡ drop 1 tokens.now)) }
+    ensures none { IfNone result (begins (key_number key ∷ []) tokens.now ≡ false) }
+{
+    match tokens {
+        [Token::Key(found), rest @ ..] if *found as u8 == key as u8 => Some(rest),
+        _ => None,
+    }
+}
+
+/// The tokens after this sign, where it is the first token.
+pub(crate) fn after_sign(tokens: &[Token], sign: Sign) -> Option<&[Token]>
+    ensures found { IfSome result (λ rest. (begins (sign_number sign ∷ []) tokens.now ≡ true)
+        × (rest.now ≡ drop 1 tokens.now)) }
+    ensures none { IfNone result (begins (sign_number sign ∷ []) tokens.now ≡ false) }
+{
+    match tokens {
+        [Token::Sign(found), rest @ ..] if *found as u8 == sign as u8 => Some(rest),
+        _ => None,
     }
 }
 
