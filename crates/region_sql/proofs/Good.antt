@@ -4,7 +4,7 @@ use Rattle.std.specs.Prelude.{is_some}
 use Rattle.std.proofs.lemmas.Bool.{eqb-true}
 use Rattle.region_sql.specs.declared.tokens.Token.{Token}
 use Rattle.region_sql.specs.Tokens.{kind_of}
-use Rattle.region_sql.specs.Forms.{Form, one, as_value, both, either, maybe, listed, Fits, AreListed}
+use Rattle.region_sql.specs.Forms.{Form, one, as_value, both, either, maybe, listed, ended, Fits, AreListed, AreEnded}
 use Rattle.region_sql.specs.Reading.{◌>>=◌, has, begins, first, taken, one_at, more_at, listed_at, parse}
 use Rattle.region_sql.proofs.Plain.{bind_ok, ok_is, taken_ok, chosen, or-right, or-false, has-append, begins-kinds, begins-tokens}
 
@@ -15,6 +15,7 @@ nullable (both f g h) = nullable f && nullable g
 nullable (either f g) = nullable f || nullable g
 nullable (maybe f) = true
 nullable (listed kind f) = nullable f
+nullable (ended kind f) = nullable f
 
 -- The kinds of tokens that a whole form may go on with.
 abbrev pub hungry : {A : Type 0} → Form A → List ℕ
@@ -24,6 +25,7 @@ hungry (both f g h) = hungry g ++ cond (nullable g) (hungry f) []
 hungry (either f g) = hungry f ++ hungry g
 hungry (maybe f) = first f ++ hungry f
 hungry (listed kind f) = kind ∷ hungry f
+hungry (ended kind f) = kind ∷ (first f ++ hungry f)
 
 -- Whether two lists have a number in common.
 abbrev pub meets : List ℕ → List ℕ → Bool
@@ -51,6 +53,7 @@ Good (both f g h) = Good f × Good g × (nullable f ≡ false) × (meets (hungry
 Good (either f g) = Good f × Good g × (nullable f ≡ false) × (nullable g ≡ false) × (meets (first f) (first g) ≡ false)
 Good (maybe f) = Good f × (nullable f ≡ false)
 Good (listed kind f) = Good f × (nullable f ≡ false) × (has (hungry f) kind ≡ false)
+Good (ended kind f) = Good f × (nullable f ≡ false) × (has (hungry f) kind ≡ false)
 
 -- A token list that fits begins so, or is empty.
 abbrev pub Begins : {A : Type 0} → Form A → List Token → Type 0
@@ -75,4 +78,12 @@ fits-begins (maybe f) (Some a) ts good fit = inl (really f ts good.1 (fits-begin
 fits-begins (listed kind f) [] ts good fit = absurd fit
 fits-begins (listed kind f) (v ∷ []) ts good fit = fits-begins f v ts good.0 fit
 fits-begins (listed kind f) (v ∷ w ∷ vs) ts good fit =
+    inl (rw fit.3 (begins-tokens (first f) fit.0 (fit.1 ∷ fit.2) (really f fit.0 good.1 (fits-begins f v fit.0 good.0 fit.5))))
+fits-begins (ended kind f) [] ts good fit = absurd fit
+fits-begins (ended kind f) (v ∷ []) ts good fit =
+    elim fit [
+      | inl l ↦ fits-begins f v ts good.0 l
+      | inr r ↦ inl (rw r.2 (begins-tokens (first f) r.0 (r.1 ∷ []) (really f r.0 good.1 (fits-begins f v r.0 good.0 r.4))))
+    ]
+fits-begins (ended kind f) (v ∷ w ∷ vs) ts good fit =
     inl (rw fit.3 (begins-tokens (first f) fit.0 (fit.1 ∷ fit.2) (really f fit.0 good.1 (fits-begins f v fit.0 good.0 fit.5))))

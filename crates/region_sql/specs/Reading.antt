@@ -5,7 +5,7 @@ use Rattle.region_sql.specs.declared.tokens.Token.{Token}
 use Rattle.region_sql.specs.declared.stuck.Stuck.{Stuck}
 use Rattle.region_sql.specs.declared.stuck.Stuck.TheVariants as stuck
 use Rattle.region_sql.specs.Tokens.{kind_of}
-use Rattle.region_sql.specs.Forms.{Form, one, as_value, both, either, maybe, listed}
+use Rattle.region_sql.specs.Forms.{Form, one, as_value, both, either, maybe, listed, ended}
 
 infixl 10 ◌>>=◌
 abbrev pub ◌>>=◌ : {A B : Type 0} → Result A ℕ → (A → Result B ℕ) → Result B ℕ
@@ -29,6 +29,7 @@ first (both f g h) = first f
 first (either f g) = first f ++ first g
 first (maybe f) = first f
 first (listed kind f) = first f
+first (ended kind f) = first f
 
 abbrev pub taken : {A : Type 0} → Option A → List Token → Result (A × List Token) ℕ
 taken None ts = Err (suc (length ts))
@@ -47,6 +48,15 @@ unfoldable pub listed_at : {A : Type 0} → ℕ → ℕ → (List Token → Resu
 listed_at zero kind read ts = Err (length ts)
 listed_at (suc n) kind read ts = read ts >>= λ x. more_at kind (listed_at n kind read) x.0 x.1
 
+abbrev pub onward_at : {A : Type 0} → ℕ → List ℕ → (List Token → Result (List A × List Token) ℕ) → A → List Token → Result (List A × List Token) ℕ
+onward_at kind firsts next v [] = Ok (v ∷ [], [])
+onward_at kind firsts next v (t ∷ ts) = cond (nat_eq kind (kind_of t)) (cond (begins firsts ts) (next ts >>= λ vs. Ok (v ∷ vs.0, vs.1)) (Ok (v ∷ [], ts))) (Ok (v ∷ [], t ∷ ts))
+
+-- At most so many values, and maybe a token after the last.
+unfoldable pub ended_at : {A : Type 0} → ℕ → ℕ → List ℕ → (List Token → Result (A × List Token) ℕ) → List Token → Result (List A × List Token) ℕ
+ended_at zero kind firsts read ts = Err (length ts)
+ended_at (suc n) kind firsts read ts = read ts >>= λ x. onward_at kind firsts (ended_at n kind firsts read) x.0 x.1
+
 abbrev pub parse : {A : Type 0} → Form A → List Token → Result (A × List Token) ℕ
 parse (one kinds take) ts = one_at take ts
 parse (as_value f h) ts = parse f ts >>= λ x. Ok (h x.0, x.1)
@@ -54,6 +64,11 @@ parse (both f g h) ts = parse f ts >>= λ x. parse g x.1 >>= λ y. Ok (h x.0 y.0
 parse (either f g) ts = cond (begins (first f) ts) (parse f ts) (parse g ts)
 parse (maybe f) ts = cond (begins (first f) ts) (parse f ts >>= λ x. Ok (Some x.0, x.1)) (Ok (None, ts))
 parse (listed kind f) ts = listed_at (length ts) kind (λ us. parse f us) ts
+parse (ended kind f) ts = ended_at (length ts) kind (first f) (λ us. parse f us) ts
+
+-- All of the tokens.
+abbrev pub whole : {A : Type 0} → Form A → List Token → Result A ℕ
+whole f ts = parse f ts >>= λ x. cond (nat_eq (length x.1) 0) (Ok x.0) (Err (length x.1))
 
 -- Why reading ends: want of memory, or so many tokens are left where no form goes on.
 abbrev pub Fails : {Y : Type 0} → Stuck → Result Y ℕ → Type 0
