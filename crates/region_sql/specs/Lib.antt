@@ -2,3 +2,4 @@ pub mod Tokens
 pub mod Forms
 pub mod Reading
 pub mod Grammar
+pub mod Lexing

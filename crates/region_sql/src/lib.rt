@@ -1,7 +1,11 @@
 //! Region statements, row statements and their values.
 #![tactic(auto)]
 
+mod byte_classes;
+mod lexer;
+mod lexing;
 mod listing;
+mod numbers;
 mod region_statements;
 mod row_readers;
 mod row_statements;
@@ -9,6 +13,7 @@ mod statements;
 mod stuck;
 mod token_readers;
 mod tokens;
+mod words;
 
 pub use region_statements::{ColumnKey, ColumnType, Goal, Item, Locality, RegionStatement};
 pub use row_statements::{

@@ -1,0 +1,163 @@
+-- A text splits in one way.
+use Rattle.std.proofs.Common.{◌≡◌, ◌⊎◌, ℕ, zero, suc, ◌+◌, ◌-◌, ◌<◌, ◌≤◌, min, Bool, true, false, cond, ◌||◌, not, List, [], ◌∷◌, ◌++◌, length, drop, take, Option, Some, None, refl, sym, ap, subst, ◌∙◌, inl, inr, arith}
+use Rattle.std.specs.List.{prefix_len}
+use Rattle.std.specs.Char.{is_ascii_digit}
+use Rattle.std.proofs.lemmas.List.{length-drop}
+use Rattle.region_sql.specs.declared.tokens.Token.{Token}
+use Rattle.region_sql.specs.Lexing.{is_word_start, is_word_byte, after_blanks, word_at, digit_count, digits_at, quoted_at, with_byte, unquoted_at, as_text, text_at, less_at, greater_at, minus_at, sign_at, token_at, Splits, Lexes}
+use Rattle.region_sql.proofs.Plain.{chosen}
+
+or-more : (r0 r1 r2 e : Bool) → ((r1 || r2) || e) ≡ true → (((r0 || r1) || r2) || e) ≡ true
+or-more true r1 r2 e h = refl
+or-more false r1 r2 e h = h
+
+some_is : {A : Type 0} (x y : A) → Some x ≡ Some y → x ≡ y
+some_is x y e = cc
+
+front-run : (p : ℕ → Bool) (b : ℕ) (bs : List ℕ) → p b ≡ true → 1 ≤ prefix_len p (b ∷ bs)
+front-run p b bs e =
+    let n : prefix_len p (b ∷ bs) ≡ 1 + prefix_len p bs = ap (λ c. cond c (1 + prefix_len p bs) 0) e in
+    omega arith
+
+dropped : (n : ℕ) (b : ℕ) (bs : List ℕ) → 1 ≤ n → length (drop n (b ∷ bs)) ≤ length bs
+dropped n b bs le = omega (arith, length-drop n (b ∷ bs))
+
+word-shorter : (b : ℕ) (bs : List ℕ) → is_word_start b ≡ true → length (word_at (b ∷ bs)).1 ≤ length bs
+unfolding word_at
+word-shorter b bs e = dropped (prefix_len is_word_byte (b ∷ bs)) b bs (front-run is_word_byte b bs (or-more _ _ _ _ e))
+
+digits-shorter : (b : ℕ) (bs : List ℕ) → is_ascii_digit b ≡ true → length (digits_at (b ∷ bs)).1 ≤ length bs
+unfolding digits_at
+digits-shorter b bs e = dropped (digit_count (b ∷ bs)) b bs (let one = front-run is_ascii_digit b bs e in omega arith)
+
+digits-no_longer : (bs : List ℕ) → length (digits_at bs).1 ≤ length bs
+unfolding digits_at
+digits-no_longer bs = omega (arith, length-drop (digit_count bs) bs)
+
+abbrev Within : ℕ → Option (Token × List ℕ) → Type 0
+Within n o = (x : Token × List ℕ) → o ≡ Some x → length x.1 ≤ n
+
+within-some : (n : ℕ) (y : Token × List ℕ) → length y.1 ≤ n → Within n (Some y)
+within-some n y le x e = subst (λ (z : Token × List ℕ). length z.1 ≤ n) (some_is y x e) le
+
+within-none : (n : ℕ) → Within n None
+within-none n x e = absurd cc
+
+within-either : (n : ℕ) (b : Bool) (o p : Option (Token × List ℕ)) → Within n o → Within n p → Within n (cond b o p)
+within-either n true o p h k = h
+within-either n false o p h k = k
+
+quoted-no_longer : (bs : List ℕ) → Within (length bs) (quoted_at bs)
+unfolding quoted_at
+quoted-no_longer bs = within-either (length bs) _ _ _ (within-none (length bs)) (within-some (length bs) _ (omega (arith, length-drop _ bs)))
+
+with_byte-some : (b n : ℕ) (o : Option (List ℕ × List ℕ)) → ((x : List ℕ × List ℕ) → o ≡ Some x → length x.1 ≤ n)
+    → (x : List ℕ × List ℕ) → with_byte b o ≡ Some x → length x.1 ≤ n
+with_byte-some b n None h x e = absurd cc
+with_byte-some b n (Some y) h x e =
+    let le = h y refl in
+    subst (λ (z : List ℕ × List ℕ). length z.1 ≤ n) (some_is (b ∷ y.0, y.1) x e) le
+
+unquoted-no_longer : (bs : List ℕ) (x : List ℕ × List ℕ) → unquoted_at bs ≡ Some x → length x.1 ≤ length bs
+unfolding unquoted_at
+unquoted-no_longer [] x e = absurd cc
+unquoted-no_longer (b ∷ []) x e =
+    elim (chosen _ _ _ _ e) [
+      | inl l ↦ subst (λ (z : List ℕ × List ℕ). length z.1 ≤ 1) (some_is ([], []) x l.1) (omega arith)
+      | inr r ↦ absurd (let f = r.1 in cc)
+    ]
+unquoted-no_longer (b ∷ c ∷ bs) x e =
+    elim (chosen _ _ _ _ e) [
+      | inl l ↦
+          elim (chosen _ _ _ _ l.1) [
+            | inl m ↦ let le = with_byte-some 39 (length bs) (unquoted_at bs) (λ y f. unquoted-no_longer bs y f) x m.1 in omega arith
+            | inr m ↦ subst (λ (z : List ℕ × List ℕ). length z.1 ≤ suc (suc (length bs))) (some_is ([], c ∷ bs) x m.1) (omega arith)
+          ]
+      | inr r ↦ let le = with_byte-some b (suc (length bs)) (unquoted_at (c ∷ bs)) (λ y f. unquoted-no_longer (c ∷ bs) y f) x r.1 in omega arith
+    ]
+
+as_text-some : (n : ℕ) (o : Option (List ℕ × List ℕ)) → ((x : List ℕ × List ℕ) → o ≡ Some x → length x.1 ≤ n) → Within n (as_text o)
+as_text-some n None h = within-none n
+as_text-some n (Some y) h = within-either n _ _ _ (within-some n _ (h y refl)) (within-none n)
+
+text-no_longer : (bs : List ℕ) → Within (length bs) (text_at bs)
+unfolding text_at
+text-no_longer bs = as_text-some (length bs) (unquoted_at bs) (λ x e. unquoted-no_longer bs x e)
+
+either-pair : (b : Bool) (x y : Token × List ℕ) (n : ℕ) → length x.1 ≤ n → length y.1 ≤ n → length (cond b x y).1 ≤ n
+either-pair true x y n h k = h
+either-pair false x y n h k = k
+
+less-no_longer : (bs : List ℕ) → length (less_at bs).1 ≤ length bs
+less-no_longer [] = omega arith
+less-no_longer (c ∷ bs) = either-pair _ _ _ (suc (length bs)) (omega arith) (either-pair _ _ _ (suc (length bs)) (omega arith) (omega arith))
+
+greater-no_longer : (bs : List ℕ) → length (greater_at bs).1 ≤ length bs
+greater-no_longer [] = omega arith
+greater-no_longer (c ∷ bs) = either-pair _ _ _ (suc (length bs)) (omega arith) (omega arith)
+
+minus-no_longer : (bs : List ℕ) → length (minus_at bs).1 ≤ length bs
+unfolding minus_at
+minus-no_longer bs = either-pair _ _ _ (length bs) (digits-no_longer bs) (omega arith)
+
+sign-no_longer : (b : ℕ) (bs : List ℕ) → Within (length bs) (sign_at b bs)
+unfolding sign_at
+sign-no_longer b bs =
+    let n = length bs in
+    let same : length bs ≤ length bs = omega arith in
+    within-either n _ _ _ (within-some n _ same) (within-either n _ _ _ (within-some n _ same) (within-either n _ _ _ (within-some n _ same)
+    (within-either n _ _ _ (within-some n _ same) (within-either n _ _ _ (within-some n _ same) (within-either n _ _ _ (within-some n _ same)
+    (within-either n _ _ _ (within-some n _ (less-no_longer bs)) (within-either n _ _ _ (within-some n _ same)
+    (within-either n _ _ _ (within-some n _ (greater-no_longer bs)) (within-none n)))))))))
+
+within-true : (n : ℕ) (b : Bool) (o p : Option (Token × List ℕ)) → (b ≡ true → Within n o) → Within n p → Within n (cond b o p)
+within-true n true o p h k = h refl
+within-true n false o p h k = k
+
+token-within : (b : ℕ) (bs : List ℕ) → Within (length bs) (token_at (b ∷ bs))
+unfolding token_at
+token-within b bs =
+    let n = length bs in
+    within-true n (is_word_start b) _ _ (λ e. within-some n _ (word-shorter b bs e))
+    (within-true n (is_ascii_digit b) _ _ (λ e. within-some n _ (digits-shorter b bs e))
+    (within-either n _ _ _ (quoted-no_longer bs) (within-either n _ _ _ (text-no_longer bs)
+    (within-either n _ _ _ (within-some n _ (minus-no_longer bs)) (sign-no_longer b bs)))))
+
+none-at-end : token_at [] ≡ None
+unfolding token_at
+none-at-end = refl
+
+pub token-shorter : (bytes : List ℕ) (x : Token × List ℕ) → token_at bytes ≡ Some x → length x.1 < length bytes
+token-shorter [] x e = absurd (let f = none-at-end in cc)
+token-shorter (b ∷ bs) x e = let le = token-within b bs x e in omega arith
+
+-- ---- one way
+
+pub lexes-push : (total : ℕ) (text : List ℕ) (ts : List Token) (es : List ℕ) (after : List ℕ) (t : Token) (next : List ℕ) (e : ℕ)
+    → Lexes total text ts es after → token_at (after_blanks after) ≡ Some (t, next) → e + length next ≡ total
+    → Lexes total text (ts ++ t ∷ []) (es ++ e ∷ []) next
+lexes-push total text [] [] after t next e p h l = (next, ap (λ bs. token_at (after_blanks bs)) p ∙ h, l, refl)
+lexes-push total text [] (d ∷ es) after t next e p h l = absurd p
+lexes-push total text (u ∷ ts) [] after t next e p h l = absurd p
+lexes-push total text (u ∷ ts) (d ∷ es) after t next e p h l = (p.0, p.1, p.2, lexes-push total p.0 ts es after t next e p.3 h l)
+
+pub lexes-splits : (total : ℕ) (text : List ℕ) (ts : List Token) (es : List ℕ) (after : List ℕ) → Lexes total text ts es after → Splits text ts after
+lexes-splits total text [] [] after p = p
+lexes-splits total text [] (d ∷ es) after p = absurd p
+lexes-splits total text (u ∷ ts) [] after p = absurd p
+lexes-splits total text (u ∷ ts) (d ∷ es) after p = (p.0, p.1, lexes-splits total p.0 ts es after p.3)
+
+pub one-split : (text : List ℕ) (ts us : List Token) (a b : List ℕ) → Splits text ts a → Splits text us b
+    → token_at (after_blanks a) ≡ None → token_at (after_blanks b) ≡ None → (ts ≡ us) × (a ≡ b)
+one-split text [] [] a b p q n m = (refl, sym p ∙ q)
+one-split text [] (u ∷ us) a b p q n m = absurd (let e = sym q.1 ∙ ap (λ bs. token_at (after_blanks bs)) p ∙ n in cc)
+one-split text (t ∷ ts) [] a b p q n m = absurd (let e = sym p.1 ∙ ap (λ bs. token_at (after_blanks bs)) q ∙ m in cc)
+one-split text (t ∷ ts) (u ∷ us) a b p q n m =
+    let same : (t, p.0) ≡ (u, q.0) = some_is (t, p.0) (u, q.0) (sym p.1 ∙ q.1) in
+    let next : p.0 ≡ q.0 = ap (λ (x : Token × List ℕ). x.1) same in
+    let head : t ≡ u = ap (λ (x : Token × List ℕ). x.0) same in
+    let rest = one-split p.0 ts us a b p.2 (subst (λ (bs : List ℕ). Splits bs us b) (sym next) q.2) n m in
+    (cc, rest.1)
+
+pub ended-here : (a : List ℕ) → after_blanks a ≡ [] → token_at (after_blanks a) ≡ None
+ended-here a e = ap token_at e ∙ none-at-end
