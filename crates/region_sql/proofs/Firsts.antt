@@ -3,7 +3,7 @@ use Rattle.std.proofs.Common.{◌≡◌, List, [], ◌∷◌, refl}
 use Rattle.region_sql.specs.declared.tokens.Key.TheVariants as key
 use Rattle.region_sql.specs.Tokens.{key_number}
 use Rattle.region_sql.specs.Reading.{first}
-use Rattle.region_sql.specs.Grammar.{insert, select, update, delete}
+use Rattle.region_sql.specs.Grammar.{insert, select, update, delete, row_statement}
 
 pub of_insert : first insert ≡ key_number key.Insert ∷ []
 unfolding insert
@@ -20,3 +20,7 @@ of_update = refl
 pub of_delete : first delete ≡ key_number key.Delete ∷ []
 unfolding delete
 of_delete = refl
+
+pub of_row_statement : first row_statement ≡ key_number key.Insert ∷ key_number key.Select ∷ key_number key.Update ∷ key_number key.Delete ∷ []
+unfolding row_statement insert select update delete
+of_row_statement = refl

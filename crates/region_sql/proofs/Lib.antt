@@ -5,3 +5,5 @@ pub mod Loops
 pub mod Firsts
 pub mod Bytes
 pub mod Lexes
+pub mod GoodForms
+pub mod Texts

@@ -23,7 +23,8 @@ use Rattle.region_sql.specs.declared.tokens.Sign.TheVariants as sign
 use Rattle.region_sql.specs.declared.tokens.Token.{Token}
 use Rattle.region_sql.specs.declared.tokens.Token.TheVariants as token
 use Rattle.region_sql.specs.Tokens.{kind_of, key_number, soft_number, soft_text, sign_number, comparison_number}
-use Rattle.region_sql.specs.Forms.{Form, one, as_value, both, either, maybe, listed, Fits}
+use Rattle.region_sql.specs.Lexing.{IsSplit}
+use Rattle.region_sql.specs.Forms.{Form, one, as_value, both, either, maybe, listed, ended, Fits}
 
 -- ---- single tokens
 
@@ -182,3 +183,13 @@ delete = both (word key.Delete ▸ word key.From ▸ name) where_terms rows.Dele
 
 unfoldable pub row_statement : Form RowStatement
 row_statement = either insert (either select (either update delete))
+
+-- Row statements with ; between each two, and maybe one after the last
+unfoldable pub row_statements : Form (List RowStatement)
+row_statements = ended (sign_number sign.Semicolon) row_statement
+
+-- ---- texts
+
+-- The text is a list of these row statements.
+abbrev pub IsListText : List ℕ → List RowStatement → Type 0
+IsListText text list = (ts : List Token) × IsSplit text ts × Fits row_statements list ts

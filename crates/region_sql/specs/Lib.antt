@@ -3,3 +3,4 @@ pub mod Forms
 pub mod Reading
 pub mod Grammar
 pub mod Lexing
+pub mod Faults

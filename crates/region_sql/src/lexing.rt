@@ -19,6 +19,16 @@ pub(crate) struct Lexed {
     pub(crate) is_whole: bool,
 }
 
+impl Lexed {
+    /// The place just after all the tokens but the last `left`.
+    pub(crate) fn place(&self, left: usize) -> usize {
+        match self.ends.len().saturating_sub(left) {
+            0 => 0,
+            taken => self.ends[taken - 1],
+        }
+    }
+}
+
 /// Splits a text into tokens, at each place the longest that fits.
 pub(crate) fn lex(alloc: Global, text: &[u8]) -> Result<Lexed, Memory>
     ensures { IfOk result (λ l. (rest : List ℕ)
@@ -27,7 +37,7 @@ pub(crate) fn lex(alloc: Global, text: &[u8]) -> Result<Lexed, Memory>
     let mut tokens = Vec::new(alloc);
     let mut ends = Vec::new(alloc);
     let mut rest = text;
-    for _ in 0..=text.len() {
+    loop {
         let front = after_blanks(rest);
         if front.is_empty() {
             return Ok(Lexed { tokens, ends, is_whole: true });
@@ -39,5 +49,4 @@ pub(crate) fn lex(alloc: Global, text: &[u8]) -> Result<Lexed, Memory>
         ends.push(text.len() - next.len())?;
         rest = next;
     }
-    unreachable!()
 }

@@ -5,7 +5,9 @@ mod byte_classes;
 mod lexer;
 mod lexing;
 mod listing;
+mod lists;
 mod numbers;
+mod parse;
 mod region_statements;
 mod row_readers;
 mod row_statements;
@@ -15,6 +17,7 @@ mod token_readers;
 mod tokens;
 mod words;
 
+pub use parse::parse_list;
 pub use region_statements::{ColumnKey, ColumnType, Goal, Item, Locality, RegionStatement};
 pub use row_statements::{
     Comparison, Literal, Literals, RowStatement, Target, Term, Value, Wanted,
