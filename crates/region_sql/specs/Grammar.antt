@@ -1,6 +1,20 @@
 -- The forms of statements. Source: CockroachDB's documentation of SQL statements and PostgreSQL's
 -- forms of the same names, in this project's profile.
 use Rattle.std.specs.Prelude.{◌≡◌, ℕ, Bool, true, false, cond, List, [], ◌∷◌, ◌++◌, Option, Some, None, nat_eq, ℤ}
+use Rattle.region_sql.specs.declared.region_statements.ColumnKey.{ColumnKey}
+use Rattle.region_sql.specs.declared.region_statements.ColumnKey.TheVariants as keys
+use Rattle.region_sql.specs.declared.region_statements.ColumnType.{ColumnType}
+use Rattle.region_sql.specs.declared.region_statements.Goal.{Goal}
+use Rattle.region_sql.specs.declared.region_statements.Goal.TheVariants as goals
+use Rattle.region_sql.specs.declared.region_statements.Item.{Item}
+use Rattle.region_sql.specs.declared.region_statements.Item.TheVariants as items
+use Rattle.region_sql.specs.declared.region_statements.Locality.{Locality}
+use Rattle.region_sql.specs.declared.region_statements.Locality.TheVariants as localities
+use Rattle.region_sql.specs.declared.region_statements.RegionStatement.{RegionStatement}
+use Rattle.region_sql.specs.declared.region_statements.RegionStatement.TheVariants as regions
+use Rattle.region_sql.specs.declared.statements.Statement.{Statement}
+use Rattle.region_sql.specs.declared.statements.Statement.TheVariants as statements
+use Rattle.region_sql.specs.declared.tokens.Soft.TheVariants as softs
 use Rattle.region_sql.specs.declared.row_readers.Change.{Change}
 use Rattle.region_sql.specs.declared.row_readers.Change.TheVariants as changes
 use Rattle.region_sql.specs.declared.row_statements.Comparison.{Comparison}
@@ -184,6 +198,128 @@ delete = both (word key.Delete ▸ word key.From ▸ name) where_terms rows.Dele
 unfoldable pub row_statement : Form RowStatement
 row_statement = either insert (either select (either update delete))
 
+-- ---- region statements
+
+abbrev pub type_in : Token → Option ColumnType
+type_in (token.Type t) = Some t
+type_in _ = None
+
+-- INT | INT8 | BIGINT | STRING | TEXT | BOOL
+unfoldable pub column_type : Form ColumnType
+column_type = one (1 ∷ []) type_in
+
+-- ZONE | REGION
+unfoldable pub goal : Form Goal
+goal = either (as_value (word key.Zone) (λ _. goals.Zone)) (as_value (word key.Region) (λ _. goals.Region))
+
+-- SURVIVE goal FAILURE
+unfoldable pub survive : Form Goal
+survive = word key.Survive ▸ goal ◂ word key.Failure
+
+abbrev pub is_given : {A : Type 0} → Option A → Bool
+is_given None = false
+is_given (Some v) = true
+
+-- [NOT NULL]
+unfoldable pub not_null : Form Bool
+not_null = as_value (maybe (word key.Not ▸ word key.Null)) is_given
+
+abbrev pub key_or_plain : Option ColumnKey → ColumnKey
+key_or_plain None = keys.Plain
+key_or_plain (Some k) = k
+
+-- [PRIMARY KEY | UNIQUE]
+unfoldable pub column_key : Form ColumnKey
+column_key = as_value (maybe (either (word key.Primary ▸ as_value (word key.Key) (λ _. keys.Primary)) (as_value (word key.Unique) (λ _. keys.Unique)))) key_or_plain
+
+abbrev pub then : {A B : Type 0} → Form A → Form B → Form (A × B)
+then f g = both f g (λ a b. (a, b))
+
+-- name type [NOT NULL] [PRIMARY KEY | UNIQUE]
+unfoldable pub column : Form Item
+column = both (then (then name column_type) not_null) column_key (λ c k. items.Column c.0.0 c.0.1 c.1 k)
+
+-- PRIMARY KEY ( { name } ) | column
+unfoldable pub item : Form Item
+item = either (word key.Primary ▸ word key.Key ▸ as_value (inside names) items.Key) column
+
+unfoldable pub item_list : Form (List Item)
+item_list = with_commas item
+
+-- PRIMARY REGION | name
+unfoldable pub table_home : Form Locality
+table_home = either (word key.Primary ▸ as_value (word key.Region) (λ _. localities.InPrimary)) (as_value name localities.InRegion)
+
+-- GLOBAL | REGIONAL BY ROW | REGIONAL BY TABLE IN home
+unfoldable pub locality : Form Locality
+locality = either (as_value (word key.Global) (λ _. localities.Global))
+  (word key.Regional ▸ word key.By ▸ either (as_value (word key.Row) (λ _. localities.ByRow)) (word key.Table ▸ word key.In ▸ table_home))
+
+-- [REGIONS { name }]
+unfoldable pub more_regions : Form (List (List ℕ))
+more_regions = as_value (maybe (word key.Regions ▸ names)) list_or_none
+
+-- [SURVIVE goal FAILURE]
+unfoldable pub maybe_survive : Form (Option Goal)
+maybe_survive = maybe survive
+
+-- PRIMARY REGION name [REGIONS { name }] [SURVIVE goal FAILURE]
+unfoldable pub database_regions : Form ((List ℕ × List (List ℕ)) × Option Goal)
+database_regions = then (then (word key.Primary ▸ word key.Region ▸ name) more_regions) maybe_survive
+
+abbrev pub made_database : List ℕ → Option ((List ℕ × List (List ℕ)) × Option Goal) → RegionStatement
+made_database name None = regions.CreateDatabase name None [] None
+made_database name (Some r) = regions.CreateDatabase name (Some r.0.0) r.0.1 r.1
+
+-- DATABASE name [regions], after CREATE
+unfoldable pub new_database : Form RegionStatement
+new_database = both (word key.Database ▸ name) (maybe database_regions) made_database
+
+-- TABLE name ( { item } ) [LOCALITY locality], after CREATE
+unfoldable pub new_table : Form RegionStatement
+new_table = three (word key.Table ▸ name) (inside item_list) (maybe (word key.Locality ▸ locality)) regions.CreateTable
+
+-- CREATE ..
+unfoldable pub create : Form RegionStatement
+create = word key.Create ▸ either new_database new_table
+
+-- RESTRICTED | DEFAULT
+unfoldable pub restricted : Form Bool
+restricted = either (as_value (soft softs.Restricted) (λ _. true)) (as_value (soft softs.Default) (λ _. false))
+
+-- What is done to a database, after its name: SET PRIMARY REGION name | ADD REGION name | DROP REGION
+-- name | SURVIVE goal FAILURE | PLACEMENT RESTRICTED or DEFAULT
+unfoldable pub alteration : Form (List ℕ → RegionStatement)
+alteration = either (word key.Set ▸ word key.Primary ▸ word key.Region ▸ as_value name (λ r d. regions.SetPrimary d r))
+  (either (word key.Add ▸ word key.Region ▸ as_value name (λ r d. regions.AddRegion d r))
+  (either (word key.Drop ▸ word key.Region ▸ as_value name (λ r d. regions.DropRegion d r))
+  (either (as_value survive (λ g d. regions.Survive d g))
+  (soft softs.Placement ▸ as_value restricted (λ b d. regions.Placement d b)))))
+
+-- DATABASE name alteration, after ALTER
+unfoldable pub altered_database : Form RegionStatement
+altered_database = both (word key.Database ▸ name) alteration (λ d change. change d)
+
+-- TABLE name SET LOCALITY locality, after ALTER
+unfoldable pub altered_table : Form RegionStatement
+altered_table = both (word key.Table ▸ name) (word key.Set ▸ word key.Locality ▸ locality) regions.SetLocality
+
+-- ALTER ..
+unfoldable pub alter : Form RegionStatement
+alter = word key.Alter ▸ either altered_database altered_table
+
+-- USE name
+unfoldable pub used : Form RegionStatement
+used = word key.Use ▸ as_value name regions.Use
+
+unfoldable pub region_statement : Form RegionStatement
+region_statement = either create (either alter used)
+
+-- ---- statements and lists
+
+unfoldable pub statement : Form Statement
+statement = either (as_value region_statement statements.Region) (as_value row_statement statements.Row)
+
 -- Row statements with ; between each two, and maybe one after the last
 unfoldable pub row_statements : Form (List RowStatement)
 row_statements = ended (sign_number sign.Semicolon) row_statement
@@ -193,3 +329,7 @@ row_statements = ended (sign_number sign.Semicolon) row_statement
 -- The text is a list of these row statements.
 abbrev pub IsListText : List ℕ → List RowStatement → Type 0
 IsListText text list = (ts : List Token) × IsSplit text ts × Fits row_statements list ts
+
+-- The text is this statement.
+abbrev pub IsStatementText : List ℕ → Statement → Type 0
+IsStatementText text v = (ts : List Token) × IsSplit text ts × Fits statement v ts

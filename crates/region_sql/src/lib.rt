@@ -2,12 +2,14 @@
 #![tactic(auto)]
 
 mod byte_classes;
+mod databases;
 mod lexer;
 mod lexing;
 mod listing;
 mod lists;
 mod numbers;
 mod parse;
+mod region_readers;
 mod region_statements;
 mod row_readers;
 mod row_statements;

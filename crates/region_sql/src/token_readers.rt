@@ -1,10 +1,11 @@
 //! Readers of single tokens. Each answers what it read and the tokens after it.
 
 ghost use Rattle.std.specs.Prelude.{◌≡◌, [], ◌∷◌, true, false, drop, IfSome, IfNone};
-ghost use Rattle.region_sql.specs.Grammar.{word, mark, soft, equals, name, literal, compare, integer, taken_away};
+ghost use Rattle.region_sql.specs.Grammar.{word, mark, of_kind, column_type, equals, name, literal, compare, integer, taken_away};
 ghost use Rattle.region_sql.specs.Reading.{Gives, parse, begins, first};
 ghost use Rattle.region_sql.specs.Tokens.{key_number, soft_number, sign_number};
 
+use crate::region_statements::ColumnType;
 use crate::row_statements::{Comparison, Literal};
 use crate::stuck::Stuck;
 use crate::tokens::{Key, Sign, Soft, Token};
@@ -85,6 +86,37 @@ pub(crate) fn pass_sign(tokens: &[Token], sign: Sign) -> Result<&[Token], Stuck>
 {
     match tokens {
         [Token::Sign(found), rest @ ..] if *found as u8 == sign as u8 => Ok(rest),
+        _ => Err(Stuck::At(tokens.len())),
+    }
+}
+
+/// Whether the first token is this soft key word.
+pub(crate) fn begins_with_soft(tokens: &[Token], soft: Soft) -> bool
+    ensures { result ≡ begins (soft_number soft ∷ []) tokens.now }
+{
+    match tokens {
+        [Token::Soft(found), ..] => *found as u8 == soft as u8,
+        _ => false,
+    }
+}
+
+/// Passes this soft key word.
+pub(crate) fn pass_soft(tokens: &[Token], soft: Soft) -> Result<&[Token], Stuck>
+    ensures { Gives (λ rest. (tt, rest.now)) result (parse (of_kind (soft_number soft)) tokens.now) }
+{
+    match tokens {
+        [Token::Soft(found), rest @ ..] if *found as u8 == soft as u8 => Ok(rest),
+        _ => Err(Stuck::At(tokens.len())),
+    }
+}
+
+/// The type of a column.
+#[tactic(auto, unfolding(crate::specs::Grammar::column_type))]
+pub(crate) fn type_of(tokens: &[Token]) -> Result<(ColumnType, &[Token]), Stuck>
+    ensures { Gives (λ x. (x.0, x.1.now)) result (parse column_type tokens.now) }
+{
+    match tokens {
+        [Token::Type(ty), rest @ ..] => Ok((*ty, rest)),
         _ => Err(Stuck::At(tokens.len())),
     }
 }
