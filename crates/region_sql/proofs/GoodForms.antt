@@ -12,7 +12,7 @@ use Rattle.region_sql.specs.Reading.{has}
 use Rattle.region_sql.specs.Grammar.{of_kind, name_in, literal_in, comparison_in, integer_in, taken_in, name, literal, compare, integer, taken_away, names, term, terms, where_terms, literal_list, row, row_list, change, value, target, targets, wanted, insert, select, update, delete, row_statement, row_statements}
 use Rattle.region_sql.proofs.Good.{Good}
 
-kind-good : (kind : ℕ) → Good (of_kind kind)
+pub kind-good : (kind : ℕ) → Good (of_kind kind)
 kind-good kind t = elim (nat_eq kind (kind_of t)) as (λ b. is_some (cond b (Some (tt {0})) None) ≡ (b || false)) [ true ↦ refl | false ↦ refl ]
 
 name-token : (t : Token) → is_some (name_in t) ≡ has (0 ∷ 50 ∷ 51 ∷ 52 ∷ []) (kind_of t)

@@ -7,3 +7,4 @@ pub mod Bytes
 pub mod Lexes
 pub mod GoodForms
 pub mod Texts
+pub mod GoodRegionForms

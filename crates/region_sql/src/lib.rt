@@ -19,7 +19,7 @@ mod token_readers;
 mod tokens;
 mod words;
 
-pub use parse::parse_list;
+pub use parse::{one_meaning, parse_list, parse_statement};
 pub use region_statements::{ColumnKey, ColumnType, Goal, Item, Locality, RegionStatement};
 pub use row_statements::{
     Comparison, Literal, Literals, RowStatement, Target, Term, Value, Wanted,

@@ -1,14 +1,15 @@
 //! Statements and lists from their texts.
 
 ghost use Rattle.std.specs.Prelude.{◌≡◌, ℕ, ◌<◌, ◌≤◌, List, length, IfOk, IsErrOf};
-ghost use Rattle.region_sql.specs.Grammar.{IsListText};
+ghost use Rattle.region_sql.specs.Grammar.{IsListText, IsStatementText};
 ghost use Rattle.region_sql.specs.Faults.{IfSyntax};
 ghost use Rattle.region_sql.specs.declared.row_statements.RowStatement.{RowStatement as AnyRowStatement};
 ghost use Rattle.region_sql.specs.declared.statements.ParseFault.TheVariants.{TooMany};
+ghost use Rattle.region_sql.specs.declared.statements.Statement.{Statement as AnyStatement};
 
 use crate::lexing::lex;
-use crate::lists::list_of_tokens;
-use crate::statements::{List, ParseFault};
+use crate::lists::{list_of_tokens, statement_of_tokens};
+use crate::statements::{List, ParseFault, Statement};
 use crate::stuck::Stuck;
 use std::alloc::Global;
 
@@ -40,4 +41,34 @@ pub fn parse_list(alloc: Global, s: &[u8]) -> Result<List, ParseFault>
         Err(Stuck::At(left)) => Err(ParseFault::Syntax { at: lexed.place(left) }),
         Err(Stuck::Memory) => Err(ParseFault::Memory),
     }
+}
+
+/// Reads a statement of either kind.
+///
+/// # Errors
+///
+/// `Syntax` where the text is no statement.
+pub fn parse_statement(alloc: Global, s: &[u8]) -> Result<Statement, ParseFault>
+    ensures value { IfOk result (λ statement. IsStatementText s.now statement) }
+    ensures one { IsErrOf result TooMany → ⊥ }
+    ensures syntax { IfSyntax result (λ at. (statement : AnyStatement) → IsStatementText s.now statement → ⊥) }
+{
+    let lexed = lex(alloc, s)?;
+    match statement_of_tokens(alloc, &lexed.tokens) {
+        Ok(statement) => {
+            if !lexed.is_whole {
+                return Err(ParseFault::Syntax { at: lexed.place(0) });
+            }
+            Ok(statement)
+        }
+        Err(Stuck::At(left)) => Err(ParseFault::Syntax { at: lexed.place(left) }),
+        Err(Stuck::Memory) => Err(ParseFault::Memory),
+    }
+}
+
+/// No text is two lists, and none is two statements.
+pub fn one_meaning()
+    ensures list { (text : List ℕ) (a b : List AnyRowStatement) → IsListText text a → IsListText text b → a ≡ b }
+    ensures statement { (text : List ℕ) (a b : AnyStatement) → IsStatementText text a → IsStatementText text b → a ≡ b }
+{
 }
