@@ -1,13 +1,13 @@
 -- What is read fits, and what fits is read.
-use Rattle.std.proofs.Common.{◌≡◌, ◌⊎◌, ◌≤◌, ◌+◌, ℕ, zero, suc, Bool, true, false, cond, ◌||◌, ◌&&◌, List, [], ◌∷◌, ◌++◌, length, Option, Some, None, Result, Ok, Err, refl, sym, ap, subst, ◌∙◌, inl, inr, nat_eq, append_assoc, arith, eq-eqb}
+use Rattle.std.proofs.Common.{◌≡◌, ◌⊎◌, ◌≤◌, ◌+◌, ℕ, zero, suc, Bool, true, false, cond, List, [], ◌∷◌, ◌++◌, length, Option, Some, None, Result, Ok, Err, refl, sym, ap, subst, ◌∙◌, inl, inr, nat_eq, append_assoc, arith, eq-eqb}
 use Rattle.std.proofs.lemmas.Bool.{eqb-true}
 use Rattle.std.proofs.lemmas.List.{length-append, append-nil, nil_from_length}
 use Rattle.region_sql.specs.declared.tokens.Token.{Token}
 use Rattle.region_sql.specs.Tokens.{kind_of}
 use Rattle.region_sql.specs.Forms.{Form, one, as_value, both, either, maybe, listed, ended, Fits, AreListed, AreEnded}
 use Rattle.region_sql.specs.Reading.{◌>>=◌, has, begins, first, taken, one_at, more_at, listed_at, onward_at, ended_at, parse, whole}
-use Rattle.region_sql.proofs.Plain.{bind_ok, ok_is, taken_ok, chosen, or-right, or-false, has-append, begins-kinds, begins-tokens}
-use Rattle.region_sql.proofs.Good.{nullable, hungry, meets, apart-begins, Good, Begins, really, fits-begins}
+use Rattle.region_sql.proofs.Plain.{bind_ok, ok_is, taken_ok, chosen, or-false, begins-kinds, begins-tokens}
+use Rattle.region_sql.proofs.Good.{nullable, hungry, meets, apart-begins, Good, really, fits-begins}
 
 -- The tokens begin with some that fit, before those that are left.
 abbrev pub Took : {A : Type 0} → (A → List Token → Type 0) → List Token → A × List Token → Type 0
@@ -47,9 +47,9 @@ sound-listed {A = A} (suc n) kind read P each ts x e =
       | inr r ↦
           let u = sound-listed n kind read P each r.1 r.2 r.5 in
           let whole : ts ≡ (t.0 ++ r.0 ∷ u.0) ++ r.2.1 =
-              t.1 ∙ ap (λ us. t.0 ++ us) (r.3 ∙ ap (λ us. r.0 ∷ us) u.1) ∙ sym (append_assoc t.0 (r.0 ∷ u.0) r.2.1) in
+          t.1 ∙ ap (λ us. t.0 ++ us) (r.3 ∙ ap (λ us. r.0 ∷ us) u.1) ∙ sym (append_assoc t.0 (r.0 ∷ u.0) r.2.1) in
           subst (λ (y : List A × List Token). Took (λ vs us. AreListed kind P vs us) ts y) r.6
-              (t.0 ++ r.0 ∷ u.0, whole, listed-cons kind P b.0.0 r.2.0 t.0 r.0 u.0 t.2 r.4 u.2)
+          (t.0 ++ r.0 ∷ u.0, whole, listed-cons kind P b.0.0 r.2.0 t.0 r.0 u.0 t.2 r.4 u.2)
     ]
 
 ended-cons : {A : Type 0} (kind : ℕ) (P : A → List Token → Type 0) (v : A) (vs : List A) (front : List Token) (mark : Token) (back : List Token)
@@ -87,13 +87,13 @@ sound-ended {A = A} (suc n) kind firsts read P each ts x e =
       | inr (inl r) ↦
           let whole : ts ≡ (t.0 ++ r.0 ∷ []) ++ r.1 = t.1 ∙ ap (λ us. t.0 ++ us) r.2 ∙ sym (append_assoc t.0 (r.0 ∷ []) r.1) in
           subst (λ (y : List A × List Token). Took (λ vs us. AreEnded kind P vs us) ts y) r.4
-              (t.0 ++ r.0 ∷ [], whole, inr (t.0, r.0, refl, r.3, t.2))
+          (t.0 ++ r.0 ∷ [], whole, inr (t.0, r.0, refl, r.3, t.2))
       | inr (inr r) ↦
           let u = sound-ended n kind firsts read P each r.1 r.2 r.5 in
           let whole : ts ≡ (t.0 ++ r.0 ∷ u.0) ++ r.2.1 =
-              t.1 ∙ ap (λ us. t.0 ++ us) (r.3 ∙ ap (λ us. r.0 ∷ us) u.1) ∙ sym (append_assoc t.0 (r.0 ∷ u.0) r.2.1) in
+          t.1 ∙ ap (λ us. t.0 ++ us) (r.3 ∙ ap (λ us. r.0 ∷ us) u.1) ∙ sym (append_assoc t.0 (r.0 ∷ u.0) r.2.1) in
           subst (λ (y : List A × List Token). Took (λ vs us. AreEnded kind P vs us) ts y) r.6
-              (t.0 ++ r.0 ∷ u.0, whole, ended-cons kind P b.0.0 r.2.0 t.0 r.0 u.0 t.2 r.4 u.2)
+          (t.0 ++ r.0 ∷ u.0, whole, ended-cons kind P b.0.0 r.2.0 t.0 r.0 u.0 t.2 r.4 u.2)
     ]
 
 pub sound : {A : Type 0} (f : Form A) (ts : List Token) (x : A × List Token) → parse f ts ≡ Ok x → Took (λ v us. Fits f v us) ts x
@@ -112,7 +112,7 @@ sound (both {A = A} {B = B} {C = C} f g h) ts x e =
     let u = sound g b.0.1 c.0 c.1 in
     let whole : ts ≡ (t.0 ++ u.0) ++ c.0.1 = t.1 ∙ ap (λ us. t.0 ++ us) u.1 ∙ sym (append_assoc t.0 u.0 c.0.1) in
     subst (λ (y : C × List Token). Took (λ v us. Fits (both f g h) v us) ts y) (ok_is (h b.0.0 c.0.0, c.0.1) x c.2)
-        (t.0 ++ u.0, whole, (b.0.0, c.0.0, t.0, u.0, refl, refl, t.2, u.2))
+    (t.0 ++ u.0, whole, (b.0.0, c.0.0, t.0, u.0, refl, refl, t.2, u.2))
 sound (either f g) ts x e =
     elim (chosen (begins (first f) ts) (parse f ts) (parse g ts) (Ok x) e) [
       | inl l ↦ let t = sound f ts x l.1 in (t.0, t.1, inl t.2)
@@ -293,12 +293,12 @@ complete (listed {A = A} kind f) good vs front rest fit stops =
     let each : (v : A) (ts : List Token) → Fits f v ts → 1 ≤ length ts = λ v ts p. nonempty (first f) ts (really f ts good.1 (fits-begins f v ts good.0 p)) in
     let few = listed-length kind (λ v us. Fits f v us) each vs front fit in
     complete-listed (length (front ++ rest)) kind (λ us. parse f us) (λ v us. Fits f v us) (hungry f)
-        (λ v x y p s. complete f good.0 v x y p s) good.2 vs front rest (omega (arith, length-append front rest)) fit stops
+    (λ v x y p s. complete f good.0 v x y p s) good.2 vs front rest (omega (arith, length-append front rest)) fit stops
 complete (ended {A = A} kind f) good vs front rest fit stops =
     let begun : (v : A) (ts : List Token) → Fits f v ts → begins (first f) ts ≡ true = λ v ts p. really f ts good.1 (fits-begins f v ts good.0 p) in
     let few = ended-length kind (λ v us. Fits f v us) (λ v ts p. nonempty (first f) ts (begun v ts p)) vs front fit in
     complete-ended (length (front ++ rest)) kind (λ us. parse f us) (λ v us. Fits f v us) (first f) (hungry f)
-        (λ v x y p s. complete f good.0 v x y p s) begun good.2 vs front rest (omega (arith, length-append front rest)) fit stops
+    (λ v x y p s. complete f good.0 v x y p s) begun good.2 vs front rest (omega (arith, length-append front rest)) fit stops
 
 -- ---- all of the tokens
 
@@ -317,4 +317,4 @@ whole-fits {A = A} f ts v e =
 pub fits-whole : {A : Type 0} (f : Form A) → Good f → (ts : List Token) (v : A) → Fits f v ts → whole f ts ≡ Ok v
 fits-whole f good ts v fit =
     ap (λ r. r >>= λ x. cond (nat_eq (length x.1) 0) (Ok x.0) (Err (length x.1)))
-        (ap (λ us. parse f us) (sym (append-nil ts)) ∙ complete f good v ts [] fit refl)
+    (ap (λ us. parse f us) (sym (append-nil ts)) ∙ complete f good v ts [] fit refl)

@@ -1,5 +1,5 @@
 -- With which key words statements begin.
-use Rattle.std.proofs.Common.{◌≡◌, List, [], ◌∷◌, refl}
+use Rattle.std.proofs.Common.{◌≡◌, [], ◌∷◌, refl}
 use Rattle.region_sql.specs.declared.tokens.Key.TheVariants as key
 use Rattle.region_sql.specs.Tokens.{key_number}
 use Rattle.region_sql.specs.Reading.{first}

@@ -1,12 +1,12 @@
 -- Where a form can be read from the left by one token at a time.
-use Rattle.std.proofs.Common.{◌≡◌, ◌⊎◌, ℕ, zero, suc, Bool, true, false, cond, ◌||◌, ◌&&◌, List, [], ◌∷◌, ◌++◌, length, Option, Some, None, Result, Ok, Err, refl, sym, ap, subst, ◌∙◌, inl, inr, nat_eq, append_assoc}
+use Rattle.std.proofs.Common.{◌≡◌, ◌⊎◌, ℕ, Bool, true, false, cond, ◌||◌, ◌&&◌, List, [], ◌∷◌, ◌++◌, Some, None, refl, sym, ap, ◌∙◌, inl, inr, nat_eq}
 use Rattle.std.specs.Prelude.{is_some}
 use Rattle.std.proofs.lemmas.Bool.{eqb-true}
 use Rattle.region_sql.specs.declared.tokens.Token.{Token}
 use Rattle.region_sql.specs.Tokens.{kind_of}
-use Rattle.region_sql.specs.Forms.{Form, one, as_value, both, either, maybe, listed, ended, Fits, AreListed, AreEnded}
-use Rattle.region_sql.specs.Reading.{◌>>=◌, has, begins, first, taken, one_at, more_at, listed_at, parse}
-use Rattle.region_sql.proofs.Plain.{bind_ok, ok_is, taken_ok, chosen, or-right, or-false, has-append, begins-kinds, begins-tokens}
+use Rattle.region_sql.specs.Forms.{Form, one, as_value, both, either, maybe, listed, ended, Fits}
+use Rattle.region_sql.specs.Reading.{has, begins, first}
+use Rattle.region_sql.proofs.Plain.{or-right, or-false, begins-kinds, begins-tokens}
 
 abbrev pub nullable : {A : Type 0} → Form A → Bool
 nullable (one kinds take) = false

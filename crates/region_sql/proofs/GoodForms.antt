@@ -1,5 +1,5 @@
 -- Each form can be read from the left by one token at a time.
-use Rattle.std.proofs.Common.{◌≡◌, ℕ, Bool, true, false, cond, ◌||◌, List, [], ◌∷◌, Option, Some, None, refl, nat_eq}
+use Rattle.std.proofs.Common.{◌≡◌, ℕ, true, false, cond, ◌||◌, [], ◌∷◌, Some, None, refl, nat_eq}
 use Rattle.std.specs.Prelude.{is_some}
 use Rattle.region_sql.specs.declared.row_statements.Comparison.TheVariants as comparisons
 use Rattle.region_sql.specs.declared.tokens.Key.TheVariants as key

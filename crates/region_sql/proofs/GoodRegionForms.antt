@@ -1,5 +1,5 @@
 -- Each region form can be read from the left by one token at a time.
-use Rattle.std.proofs.Common.{◌≡◌, Bool, true, false, List, [], ◌∷◌, refl}
+use Rattle.std.proofs.Common.{◌≡◌, [], ◌∷◌, refl}
 use Rattle.std.specs.Prelude.{is_some}
 use Rattle.region_sql.specs.declared.row_statements.Comparison.TheVariants as comparisons
 use Rattle.region_sql.specs.declared.tokens.Key.TheVariants as key

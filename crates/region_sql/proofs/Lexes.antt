@@ -1,5 +1,5 @@
 -- A text splits in one way.
-use Rattle.std.proofs.Common.{◌≡◌, ◌⊎◌, ℕ, zero, suc, ◌+◌, ◌-◌, ◌<◌, ◌≤◌, min, Bool, true, false, cond, ◌||◌, not, List, [], ◌∷◌, ◌++◌, length, drop, take, Option, Some, None, refl, sym, ap, subst, ◌∙◌, inl, inr, arith}
+use Rattle.std.proofs.Common.{◌≡◌, ℕ, suc, ◌+◌, ◌<◌, ◌≤◌, Bool, true, false, cond, ◌||◌, not, List, [], ◌∷◌, ◌++◌, length, drop, take, Option, Some, None, refl, sym, ap, subst, ◌∙◌, inl, inr, arith}
 use Rattle.std.specs.List.{prefix_len}
 use Rattle.std.specs.Char.{is_ascii_digit}
 use Rattle.std.specs.Int.{is_in_range}
@@ -58,7 +58,7 @@ unfolding quoted_at
 quoted-no_longer bs =
     let n : ℕ = prefix_len is_in_quotes bs in
     within-either (length bs) ((n == 0 || n == length bs) || not (is_utf8 (take n bs))) None (Some (token.Name (take n bs), drop (n + 1) bs))
-        (within-none (length bs)) (within-some (length bs) (token.Name (take n bs), drop (n + 1) bs) (omega (arith, length-drop (n + 1) bs)))
+    (within-none (length bs)) (within-some (length bs) (token.Name (take n bs), drop (n + 1) bs) (omega (arith, length-drop (n + 1) bs)))
 
 with_byte-some : (b n : ℕ) (o : Option (List ℕ × List ℕ)) → ((x : List ℕ × List ℕ) → o ≡ Some x → length x.1 ≤ n)
     → (x : List ℕ × List ℕ) → with_byte b o ≡ Some x → length x.1 ≤ n
@@ -101,7 +101,7 @@ less-no_longer : (bs : List ℕ) → length (less_at bs).1 ≤ length bs
 less-no_longer [] = omega arith
 less-no_longer (c ∷ bs) =
     either-pair (c == 61) (token.Compare comparisons.Le, bs) (cond (c == 62) (token.Compare comparisons.Ne, bs) (token.Compare comparisons.Lt, c ∷ bs)) (suc (length bs)) (omega arith)
-        (either-pair (c == 62) (token.Compare comparisons.Ne, bs) (token.Compare comparisons.Lt, c ∷ bs) (suc (length bs)) (omega arith) (omega arith))
+    (either-pair (c == 62) (token.Compare comparisons.Ne, bs) (token.Compare comparisons.Lt, c ∷ bs) (suc (length bs)) (omega arith) (omega arith))
 
 greater-no_longer : (bs : List ℕ) → length (greater_at bs).1 ≤ length bs
 greater-no_longer [] = omega arith

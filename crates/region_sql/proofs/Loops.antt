@@ -1,11 +1,10 @@
 -- Reading a list one value after the other, as a loop does.
-use Rattle.std.proofs.Common.{◌≡◌, ℕ, zero, suc, ◌-◌, ◌+◌, ◌≤◌, ◌<◌, Bool, true, false, cond, List, [], ◌∷◌, ◌++◌, length, Result, Ok, Err, refl, sym, ap, ◌∙◌, append_assoc, arith, nat_eq, ◌||◌, drop}
-use Rattle.std.proofs.lemmas.List.{append-nil}
+use Rattle.std.proofs.Common.{◌≡◌, ℕ, suc, ◌-◌, ◌+◌, ◌≤◌, ◌<◌, Bool, true, false, cond, List, [], ◌∷◌, ◌++◌, length, Result, Ok, Err, refl, sym, ap, ◌∙◌, append_assoc, arith, nat_eq, drop}
 use Rattle.region_sql.specs.declared.stuck.Stuck.{Stuck}
 use Rattle.region_sql.specs.declared.stuck.Stuck.TheVariants as stuck
 use Rattle.region_sql.specs.declared.tokens.Token.{Token}
 use Rattle.region_sql.specs.Tokens.{kind_of}
-use Rattle.region_sql.specs.Reading.{◌>>=◌, has, begins, more_at, listed_at, onward_at, ended_at, Fails}
+use Rattle.region_sql.specs.Reading.{◌>>=◌, begins, more_at, listed_at, onward_at, ended_at, Fails}
 use Rattle.region_sql.proofs.Plain.{or-false, or-no}
 
 -- What was read before, and what is still read.
@@ -38,9 +37,9 @@ pub goes_on : {A : Type 0} (front : List A) (n i kind : ℕ) (read : List Token 
     → with_front front (listed_at (n - i) kind read rest) ≡ total → with_front (front ++ v ∷ []) (listed_at (n - (i + 1)) kind read (drop 1 after)) ≡ total
 goes_on front n i kind read rest v after total lt h b so_far =
     sym (one_step front n i kind read rest lt
-        ∙ ap (λ r. with_front front (r >>= λ x. more_at kind (listed_at (n - (i + 1)) kind read) x.0 x.1)) h
-        ∙ ap (λ r. with_front front r) (next_more kind (listed_at (n - (i + 1)) kind read) v after b)
-        ∙ regroup front v (listed_at (n - (i + 1)) kind read (drop 1 after)))
+    ∙ ap (λ r. with_front front (r >>= λ x. more_at kind (listed_at (n - (i + 1)) kind read) x.0 x.1)) h
+    ∙ ap (λ r. with_front front r) (next_more kind (listed_at (n - (i + 1)) kind read) v after b)
+    ∙ regroup front v (listed_at (n - (i + 1)) kind read (drop 1 after)))
     ∙ so_far
 
 last_more : {A : Type 0} (kind : ℕ) (next : List Token → Result (List A × List Token) ℕ) (v : A) (after : List Token) → begins (kind ∷ []) after ≡ false
@@ -103,9 +102,9 @@ pub goes_onward : {A : Type 0} (front : List A) (n i kind : ℕ) (firsts : List 
     → with_front front (ended_at (n - i) kind firsts read rest) ≡ total → with_front (front ++ v ∷ []) (ended_at (n - (i + 1)) kind firsts read (drop 1 after)) ≡ total
 goes_onward front n i kind firsts read rest v after total lt h b s so_far =
     sym (one_step_ended front n i kind firsts read rest lt
-        ∙ ap (λ r. one_more front n i kind firsts read r) h
-        ∙ ap (λ r. with_front front r) (onward_marked kind firsts (ended_at (n - (i + 1)) kind firsts read) v after true b s)
-        ∙ regroup front v (ended_at (n - (i + 1)) kind firsts read (drop 1 after)))
+    ∙ ap (λ r. one_more front n i kind firsts read r) h
+    ∙ ap (λ r. with_front front r) (onward_marked kind firsts (ended_at (n - (i + 1)) kind firsts read) v after true b s)
+    ∙ regroup front v (ended_at (n - (i + 1)) kind firsts read (drop 1 after)))
     ∙ so_far
 
 pub is_last_marked : {A : Type 0} (front : List A) (n i kind : ℕ) (firsts : List ℕ) (read : List Token → Result (A × List Token) ℕ) (rest : List Token) (v : A) (after : List Token) (total : Result (List A × List Token) ℕ)

@@ -1,5 +1,5 @@
 -- Steps, tests and lists of kinds.
-use Rattle.std.proofs.Common.{◌≡◌, ◌⊎◌, ℕ, zero, suc, Bool, true, false, cond, ◌||◌, List, [], ◌∷◌, ◌++◌, length, Option, Some, None, Result, Ok, Err, refl, sym, ap, subst, ◌∙◌, inl, inr, nat_eq}
+use Rattle.std.proofs.Common.{◌≡◌, ◌⊎◌, ℕ, Bool, true, false, cond, ◌||◌, List, [], ◌∷◌, ◌++◌, Option, Some, None, Result, Ok, Err, refl, ap, inl, inr, nat_eq}
 use Rattle.region_sql.specs.declared.tokens.Token.{Token}
 use Rattle.region_sql.specs.Tokens.{kind_of}
 use Rattle.region_sql.specs.Reading.{◌>>=◌, has, begins, taken}

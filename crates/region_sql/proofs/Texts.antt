@@ -1,8 +1,8 @@
 -- From the tokens of a text to the text.
-use Rattle.std.proofs.Common.{◌≡◌, ℕ, Bool, true, false, List, [], ◌∷◌, length, Option, Some, None, Result, Ok, Err, refl, sym, ap, subst, ◌∙◌}
+use Rattle.std.proofs.Common.{◌≡◌, ℕ, Bool, true, false, List, None, Ok, Err, sym, ap, ◌∙◌}
 use Rattle.region_sql.specs.declared.tokens.Token.{Token}
 use Rattle.region_sql.specs.Forms.{Form, Fits}
-use Rattle.region_sql.specs.Lexing.{after_blanks, token_at, Splits, IsSplit, Lexes, Ends}
+use Rattle.region_sql.specs.Lexing.{after_blanks, token_at, IsSplit, Lexes, Ends}
 use Rattle.region_sql.specs.Reading.{whole}
 use Rattle.region_sql.proofs.Good.{Good}
 use Rattle.region_sql.proofs.Exact.{whole-fits, fits-whole}

@@ -1,6 +1,6 @@
 -- The forms of statements. Source: CockroachDB's documentation of SQL statements and PostgreSQL's
 -- forms of the same names, in this project's profile.
-use Rattle.std.specs.Prelude.{◌≡◌, ℕ, Bool, true, false, cond, List, [], ◌∷◌, ◌++◌, Option, Some, None, nat_eq, ℤ}
+use Rattle.std.specs.Prelude.{ℕ, Bool, true, false, cond, List, [], ◌∷◌, Option, Some, None, nat_eq, ℤ}
 use Rattle.region_sql.specs.declared.region_statements.ColumnKey.{ColumnKey}
 use Rattle.region_sql.specs.declared.region_statements.ColumnKey.TheVariants as keys
 use Rattle.region_sql.specs.declared.region_statements.ColumnType.{ColumnType}
@@ -176,7 +176,7 @@ targets = with_commas target
 -- * | count ( * ) | { name }
 unfoldable pub wanted : Form Wanted
 wanted = either (as_value (mark sign.Star) (λ _. wants.All))
-  (either (word key.Count ▸ mark sign.Open ▸ mark sign.Star ▸ as_value (mark sign.Close) (λ _. wants.Count))
+    (either (word key.Count ▸ mark sign.Open ▸ mark sign.Star ▸ as_value (mark sign.Close) (λ _. wants.Count))
     (as_value names wants.Columns))
 
 -- INSERT INTO name ( { name } ) VALUES { ( { literal } ) }
@@ -253,7 +253,7 @@ table_home = either (word key.Primary ▸ as_value (word key.Region) (λ _. loca
 -- GLOBAL | REGIONAL BY ROW | REGIONAL BY TABLE IN home
 unfoldable pub locality : Form Locality
 locality = either (as_value (word key.Global) (λ _. localities.Global))
-  (word key.Regional ▸ word key.By ▸ either (as_value (word key.Row) (λ _. localities.ByRow)) (word key.Table ▸ word key.In ▸ table_home))
+    (word key.Regional ▸ word key.By ▸ either (as_value (word key.Row) (λ _. localities.ByRow)) (word key.Table ▸ word key.In ▸ table_home))
 
 -- [REGIONS { name }]
 unfoldable pub more_regions : Form (List (List ℕ))
@@ -291,10 +291,10 @@ restricted = either (as_value (soft softs.Restricted) (λ _. true)) (as_value (s
 -- name | SURVIVE goal FAILURE | PLACEMENT RESTRICTED or DEFAULT
 unfoldable pub alteration : Form (List ℕ → RegionStatement)
 alteration = either (word key.Set ▸ word key.Primary ▸ word key.Region ▸ as_value name (λ r d. regions.SetPrimary d r))
-  (either (word key.Add ▸ word key.Region ▸ as_value name (λ r d. regions.AddRegion d r))
-  (either (word key.Drop ▸ word key.Region ▸ as_value name (λ r d. regions.DropRegion d r))
-  (either (as_value survive (λ g d. regions.Survive d g))
-  (soft softs.Placement ▸ as_value restricted (λ b d. regions.Placement d b)))))
+    (either (word key.Add ▸ word key.Region ▸ as_value name (λ r d. regions.AddRegion d r))
+    (either (word key.Drop ▸ word key.Region ▸ as_value name (λ r d. regions.DropRegion d r))
+    (either (as_value survive (λ g d. regions.Survive d g))
+    (soft softs.Placement ▸ as_value restricted (λ b d. regions.Placement d b)))))
 
 -- DATABASE name alteration, after ALTER
 unfoldable pub altered_database : Form RegionStatement

@@ -1,6 +1,6 @@
 -- Which tokens a text splits into: from the left, at each place the longest that fits.
 -- Source: this project's profile of the SQL of CockroachDB's documentation.
-use Rattle.std.specs.Prelude.{◌≡◌, ℕ, zero, suc, ◌+◌, ◌-◌, ◌*◌, ◌==◌, Bool, true, false, not, ◌&&◌, ◌||◌, List, [], ◌∷◌, ◌++◌, length, take, drop, map, min, fold, codes, Option, Some, None, if◌then◌else◌, pos, neg_ℤ, option_map, bytes_eq, ℤ}
+use Rattle.std.specs.Prelude.{◌≡◌, ℕ, ◌+◌, ◌-◌, ◌*◌, ◌==◌, Bool, true, false, not, ◌&&◌, ◌||◌, List, [], ◌∷◌, length, take, drop, map, min, fold, codes, Option, Some, None, if◌then◌else◌, pos, neg_ℤ, option_map, bytes_eq, ℤ}
 use Rattle.std.specs.List.{prefix_len}
 use Rattle.std.specs.Char.{is_ascii_alphabetic, is_ascii_alphanumeric, is_ascii_digit, to_ascii_lowercase}
 use Rattle.std.specs.Str.{is_utf8}
@@ -118,7 +118,7 @@ else_take None other = other
 -- The token of a word in lower case, before what follows it.
 unfoldable pub word_token : List ℕ → List ℕ → Token
 word_token w rest = else_take (option_map (λ k. token.Key k) (key_of w)) (else_take (option_map (λ t. token.Type t) (type_of w))
-  (else_take (option_map (λ b. token.Bool b) (bool_of w)) (else_take (option_map (λ s. token.Soft s) (soft_of w)) (count_or_name w rest))))
+    (else_take (option_map (λ b. token.Bool b) (bool_of w)) (else_take (option_map (λ s. token.Soft s) (soft_of w)) (count_or_name w rest))))
 
 -- A word is as long as it can be, and is compared in lower case.
 unfoldable pub word_at : List ℕ → Token × List ℕ
@@ -142,7 +142,7 @@ digits_at bytes = (pos (number_of (take (digit_count bytes) bytes)), drop (digit
 -- The bytes after the first ": one or more up to the next.
 unfoldable pub quoted_at : List ℕ → Option (Token × List ℕ)
 quoted_at bytes = let n = prefix_len is_in_quotes bytes in
-  if n == 0 || n == length bytes || not (is_utf8 (take n bytes)) then None else Some (token.Name (take n bytes), drop (n + 1) bytes)
+    if n == 0 || n == length bytes || not (is_utf8 (take n bytes)) then None else Some (token.Name (take n bytes), drop (n + 1) bytes)
 
 abbrev pub with_byte : ℕ → Option (List ℕ × List ℕ) → Option (List ℕ × List ℕ)
 with_byte b None = None
@@ -180,9 +180,9 @@ minus_at rest = if starts_with is_ascii_digit rest then (token.Negative (neg_ℤ
 -- ( ) * + , ; < = >
 unfoldable pub sign_at : ℕ → List ℕ → Option (Token × List ℕ)
 sign_at b rest =
-  if b == 40 then Some (token.Sign sign.Open, rest) else (if b == 41 then Some (token.Sign sign.Close, rest) else (if b == 42 then Some (token.Sign sign.Star, rest)
-  else (if b == 43 then Some (token.Sign sign.Plus, rest) else (if b == 44 then Some (token.Sign sign.Comma, rest) else (if b == 59 then Some (token.Sign sign.Semicolon, rest)
-  else (if b == 60 then Some (less_at rest) else (if b == 61 then Some (token.Compare comparisons.Eq, rest) else (if b == 62 then Some (greater_at rest) else None))))))))
+    if b == 40 then Some (token.Sign sign.Open, rest) else (if b == 41 then Some (token.Sign sign.Close, rest) else (if b == 42 then Some (token.Sign sign.Star, rest)
+    else (if b == 43 then Some (token.Sign sign.Plus, rest) else (if b == 44 then Some (token.Sign sign.Comma, rest) else (if b == 59 then Some (token.Sign sign.Semicolon, rest)
+    else (if b == 60 then Some (less_at rest) else (if b == 61 then Some (token.Compare comparisons.Eq, rest) else (if b == 62 then Some (greater_at rest) else None))))))))
 
 -- ---- tokens
 
@@ -190,7 +190,7 @@ sign_at b rest =
 unfoldable pub token_at : List ℕ → Option (Token × List ℕ)
 token_at [] = None
 token_at (b ∷ rest) = if is_word_start b then Some (word_at (b ∷ rest)) else (if is_ascii_digit b then Some (token.Integer (digits_at (b ∷ rest)).0, (digits_at (b ∷ rest)).1)
-  else (if b == 34 then quoted_at rest else (if b == 39 then text_at rest else (if b == 45 then Some (minus_at rest) else sign_at b rest))))
+    else (if b == 34 then quoted_at rest else (if b == 39 then text_at rest else (if b == 45 then Some (minus_at rest) else sign_at b rest))))
 
 -- The text begins with these tokens, and then comes the rest.
 abbrev pub Splits : List ℕ → List Token → List ℕ → Type 0

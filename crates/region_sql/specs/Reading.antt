@@ -1,6 +1,6 @@
 -- Reading a form from the front of a list of tokens: its value and the tokens after it, or how many
 -- tokens are left where no form goes on.
-use Rattle.std.specs.Prelude.{◌≡◌, ℕ, zero, suc, Bool, true, false, cond, ◌&&◌, ◌||◌, List, [], ◌∷◌, ◌++◌, length, Option, Some, None, Result, Ok, Err, nat_eq, is_some}
+use Rattle.std.specs.Prelude.{◌≡◌, ℕ, zero, suc, Bool, false, cond, ◌||◌, List, [], ◌∷◌, ◌++◌, length, Option, Some, None, Result, Ok, Err, nat_eq}
 use Rattle.region_sql.specs.declared.tokens.Token.{Token}
 use Rattle.region_sql.specs.declared.stuck.Stuck.{Stuck}
 use Rattle.region_sql.specs.declared.stuck.Stuck.TheVariants as stuck

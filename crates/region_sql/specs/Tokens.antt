@@ -1,5 +1,5 @@
 -- The kinds of tokens. Source: this project's profile of the SQL of CockroachDB's documentation.
-use Rattle.std.specs.Prelude.{ℕ, List, [], ◌∷◌, codes, ◌+◌}
+use Rattle.std.specs.Prelude.{ℕ, List, codes}
 use Rattle.region_sql.specs.declared.row_statements.Comparison.{Comparison}
 use Rattle.region_sql.specs.declared.row_statements.Comparison.TheVariants as comparison
 use Rattle.region_sql.specs.declared.tokens.Key.{Key}

@@ -40,14 +40,22 @@ fn maybe_survive_of(tokens: &[Token]) -> Result<(Option<Goal>, &[Token]), Stuck>
 
 /// DATABASE name, and what is said of its regions
 #[tactic(auto, unfolding(crate::specs::Grammar::new_database, crate::specs::Grammar::database_regions))]
-pub(crate) fn new_database_of(alloc: Global, tokens: &[Token]) -> Result<(RegionStatement, &[Token]), Stuck>
+pub(crate) fn new_database_of(
+    alloc: Global,
+    tokens: &[Token],
+) -> Result<(RegionStatement, &[Token]), Stuck>
     ensures { Gives (λ x. (x.0, x.1.now)) result (parse new_database tokens.now) }
 {
     let rest = pass_key(tokens, Key::Database)?;
     let (name, rest) = name_of(alloc, rest)?;
     if !begins_with_key(rest, Key::Primary) {
         let regions = ListOf::new(alloc);
-        let statement = RegionStatement::CreateDatabase { name, primary: None, regions, goal: None };
+        let statement = RegionStatement::CreateDatabase {
+            name,
+            primary: None,
+            regions,
+            goal: None,
+        };
         return Ok((statement, rest));
     }
     let rest = pass_key(rest, Key::Primary)?;
@@ -56,7 +64,15 @@ pub(crate) fn new_database_of(alloc: Global, tokens: &[Token]) -> Result<(Region
     let (regions, rest) = more_regions_of(alloc, rest)?;
     let (goal, rest) = maybe_survive_of(rest)?;
     let primary = Some(primary);
-    Ok((RegionStatement::CreateDatabase { name, primary, regions, goal }, rest))
+    Ok((
+        RegionStatement::CreateDatabase {
+            name,
+            primary,
+            regions,
+            goal,
+        },
+        rest,
+    ))
 }
 
 /// What is done to a database.
@@ -93,12 +109,21 @@ fn alteration_of(
     }
     let rest = pass_soft(tokens, Soft::Placement)?;
     let (restricted, rest) = restricted_of(rest)?;
-    Ok((RegionStatement::Placement { database, restricted }, rest))
+    Ok((
+        RegionStatement::Placement {
+            database,
+            restricted,
+        },
+        rest,
+    ))
 }
 
 /// DATABASE name, and what is done to it
 #[tactic(auto, unfolding(crate::specs::Grammar::altered_database))]
-pub(crate) fn altered_database_of(alloc: Global, tokens: &[Token]) -> Result<(RegionStatement, &[Token]), Stuck>
+pub(crate) fn altered_database_of(
+    alloc: Global,
+    tokens: &[Token],
+) -> Result<(RegionStatement, &[Token]), Stuck>
     ensures { Gives (λ x. (x.0, x.1.now)) result (parse altered_database tokens.now) }
 {
     let rest = pass_key(tokens, Key::Database)?;

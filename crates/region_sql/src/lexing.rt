@@ -40,10 +40,18 @@ pub(crate) fn lex(alloc: Global, text: &[u8]) -> Result<Lexed, Memory>
     loop {
         let front = after_blanks(rest);
         if front.is_empty() {
-            return Ok(Lexed { tokens, ends, is_whole: true });
+            return Ok(Lexed {
+                tokens,
+                ends,
+                is_whole: true,
+            });
         }
         let Some((token, next)) = token_at(alloc, front)? else {
-            return Ok(Lexed { tokens, ends, is_whole: false });
+            return Ok(Lexed {
+                tokens,
+                ends,
+                is_whole: false,
+            });
         };
         tokens.push(token)?;
         ends.push(text.len() - next.len())?;

@@ -38,7 +38,9 @@ pub fn parse_list(alloc: Global, s: &[u8]) -> Result<List, ParseFault>
             }
             Ok(list)
         }
-        Err(Stuck::At(left)) => Err(ParseFault::Syntax { at: lexed.place(left) }),
+        Err(Stuck::At(left)) => Err(ParseFault::Syntax {
+            at: lexed.place(left),
+        }),
         Err(Stuck::Memory) => Err(ParseFault::Memory),
     }
 }
@@ -61,7 +63,9 @@ pub fn parse_statement(alloc: Global, s: &[u8]) -> Result<Statement, ParseFault>
             }
             Ok(statement)
         }
-        Err(Stuck::At(left)) => Err(ParseFault::Syntax { at: lexed.place(left) }),
+        Err(Stuck::At(left)) => Err(ParseFault::Syntax {
+            at: lexed.place(left),
+        }),
         Err(Stuck::Memory) => Err(ParseFault::Memory),
     }
 }
@@ -70,5 +74,4 @@ pub fn parse_statement(alloc: Global, s: &[u8]) -> Result<Statement, ParseFault>
 pub fn one_meaning()
     ensures list { (text : List ℕ) (a b : List AnyRowStatement) → IsListText text a → IsListText text b → a ≡ b }
     ensures statement { (text : List ℕ) (a b : AnyStatement) → IsStatementText text a → IsStatementText text b → a ≡ b }
-{
-}
+{}

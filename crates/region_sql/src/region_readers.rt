@@ -95,7 +95,15 @@ fn column_of(alloc: Global, tokens: &[Token]) -> Result<(Item, &[Token]), Stuck>
     let (ty, rest) = type_of(rest)?;
     let (not_null, rest) = not_null_of(rest)?;
     let (key, rest) = column_key_of(rest)?;
-    Ok((Item::Column { name, ty, not_null, key }, rest))
+    Ok((
+        Item::Column {
+            name,
+            ty,
+            not_null,
+            key,
+        },
+        rest,
+    ))
 }
 
 /// An item of CREATE TABLE.
@@ -165,12 +173,26 @@ fn new_table_of(alloc: Global, tokens: &[Token]) -> Result<(RegionStatement, &[T
     let rest = pass_sign(rest, Sign::Close)?;
     if !begins_with_key(rest, Key::Locality) {
         let locality = None;
-        return Ok((RegionStatement::CreateTable { name, items, locality }, rest));
+        return Ok((
+            RegionStatement::CreateTable {
+                name,
+                items,
+                locality,
+            },
+            rest,
+        ));
     }
     let rest = pass_key(rest, Key::Locality)?;
     let (locality, rest) = locality_of(alloc, rest)?;
     let locality = Some(locality);
-    Ok((RegionStatement::CreateTable { name, items, locality }, rest))
+    Ok((
+        RegionStatement::CreateTable {
+            name,
+            items,
+            locality,
+        },
+        rest,
+    ))
 }
 
 #[tactic(auto, unfolding(crate::specs::Grammar::create), using(crate::proofs::Firsts::of_new_database))]
@@ -231,7 +253,10 @@ fn used_of(alloc: Global, tokens: &[Token]) -> Result<(RegionStatement, &[Token]
 
 /// A region statement.
 #[tactic(auto, unfolding(crate::specs::Grammar::region_statement), using(crate::proofs::Firsts::of_create, crate::proofs::Firsts::of_alter))]
-pub(crate) fn region_statement_of(alloc: Global, tokens: &[Token]) -> Result<(RegionStatement, &[Token]), Stuck>
+pub(crate) fn region_statement_of(
+    alloc: Global,
+    tokens: &[Token],
+) -> Result<(RegionStatement, &[Token]), Stuck>
     ensures { Gives (λ x. (x.0, x.1.now)) result (parse region_statement tokens.now) }
 {
     if begins_with_key(tokens, Key::Create) {

@@ -116,7 +116,14 @@ fn term_of(alloc: Global, tokens: &[Token]) -> Result<(Term, &[Token]), Stuck>
     let (column, rest) = name_of(alloc, tokens)?;
     let (op, rest) = comparison_of(rest)?;
     let (literal, rest) = literal_of(alloc, rest)?;
-    Ok((Term { column, op, literal }, rest))
+    Ok((
+        Term {
+            column,
+            op,
+            literal,
+        },
+        rest,
+    ))
 }
 
 #[tactic(auto, unfolding(crate::specs::Grammar::terms))]
@@ -274,7 +281,11 @@ fn insert_of(alloc: Global, tokens: &[Token]) -> Result<(RowStatement, &[Token])
     let rest = pass_sign(rest, Sign::Close)?;
     let rest = pass_key(rest, Key::Values)?;
     let (rows, rest) = rows_of(alloc, rest)?;
-    let statement = RowStatement::Insert { table, columns, rows };
+    let statement = RowStatement::Insert {
+        table,
+        columns,
+        rows,
+    };
     Ok((statement, rest))
 }
 
@@ -287,7 +298,11 @@ fn select_of(alloc: Global, tokens: &[Token]) -> Result<(RowStatement, &[Token])
     let rest = pass_key(rest, Key::From)?;
     let (table, rest) = name_of(alloc, rest)?;
     let (terms, rest) = where_of(alloc, rest)?;
-    let statement = RowStatement::Select { table, wanted, terms };
+    let statement = RowStatement::Select {
+        table,
+        wanted,
+        terms,
+    };
     Ok((statement, rest))
 }
 
@@ -300,7 +315,11 @@ fn update_of(alloc: Global, tokens: &[Token]) -> Result<(RowStatement, &[Token])
     let rest = pass_key(rest, Key::Set)?;
     let (targets, rest) = targets_of(alloc, rest)?;
     let (terms, rest) = where_of(alloc, rest)?;
-    let statement = RowStatement::Update { table, targets, terms };
+    let statement = RowStatement::Update {
+        table,
+        targets,
+        terms,
+    };
     Ok((statement, rest))
 }
 

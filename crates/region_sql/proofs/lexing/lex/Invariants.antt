@@ -1,4 +1,4 @@
-use Rattle.std.proofs.Common.{◌+◌, ◌≤◌, length}
+use Rattle.std.proofs.Common.{◌≤◌, length}
 use Rattle.region_sql.specs.Lexing.{Lexes}
 use Rattle.region_sql.proofs.lexing.lex.Given as goal
 

@@ -1,7 +1,7 @@
-use Rattle.std.proofs.Common.{◌≡◌, ◌-◌, length, ◌∷◌, ◌++◌, []}
+use Rattle.std.proofs.Common.{length}
 use Rattle.std.proofs.lemmas.Result.{err_from_is_err_and}
 use Rattle.region_sql.specs.Reading.{listed_at}
-use Rattle.region_sql.proofs.Loops.{starts, goes_on, is_last, ends, runs_out}
+use Rattle.region_sql.proofs.Loops.{goes_on, is_last, ends, runs_out}
 use Rattle.region_sql.proofs.listing.list_of.Goals as goal
 
 pub returns-in_err-item : goal.returns-in_err-item
