@@ -52,7 +52,7 @@ sound-listed {A = A} (suc n) kind read P each ts x e =
           (t.0 ++ r.0 ∷ u.0, whole, listed-cons kind P b.0.0 r.2.0 t.0 r.0 u.0 t.2 r.4 u.2)
     ]
 
-ended-cons : {A : Type 0} (kind : ℕ) (P : A → List Token → Type 0) (v : A) (vs : List A) (front : List Token) (mark : Token) (back : List Token)
+pub ended-cons : {A : Type 0} (kind : ℕ) (P : A → List Token → Type 0) (v : A) (vs : List A) (front : List Token) (mark : Token) (back : List Token)
     → P v front → kind_of mark ≡ kind → AreEnded kind P vs back → AreEnded kind P (v ∷ vs) (front ++ mark ∷ back)
 ended-cons kind P v [] front mark back p k ps = absurd ps
 ended-cons kind P v (w ∷ ws) front mark back p k ps = (front, mark, back, refl, k, p, ps)
@@ -253,7 +253,7 @@ complete-ended (suc n) kind read P firsts ks each starts apart (v ∷ w ∷ vs) 
     ∙ ap (λ b. cond b (ended_at n kind firsts read (p.2 ++ rest) >>= λ us. Ok (v ∷ us.0, us.1)) (Ok (v ∷ [], p.2 ++ rest))) goes
     ∙ ap (λ r. r >>= λ us. Ok (v ∷ us.0, us.1)) others
 
-nonempty : (kinds : List ℕ) (ts : List Token) → begins kinds ts ≡ true → 1 ≤ length ts
+pub nonempty : (kinds : List ℕ) (ts : List Token) → begins kinds ts ≡ true → 1 ≤ length ts
 nonempty kinds [] e = absurd cc
 nonempty kinds (t ∷ ts) e = omega arith
 

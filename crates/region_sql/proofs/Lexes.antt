@@ -17,7 +17,7 @@ or-more : (r0 r1 r2 e : Bool) → ((r1 || r2) || e) ≡ true → (((r0 || r1) ||
 or-more true r1 r2 e h = refl
 or-more false r1 r2 e h = h
 
-some_is : {A : Type 0} (x y : A) → Some x ≡ Some y → x ≡ y
+pub some_is : {A : Type 0} (x y : A) → Some x ≡ Some y → x ≡ y
 some_is x y e = cc
 
 front-run : (p : ℕ → Bool) (b : ℕ) (bs : List ℕ) → p b ≡ true → 1 ≤ prefix_len p (b ∷ bs)

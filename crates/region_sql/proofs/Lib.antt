@@ -8,3 +8,8 @@ pub mod Lexes
 pub mod GoodForms
 pub mod Texts
 pub mod GoodRegionForms
+pub mod Outcomes
+pub mod ListOutcomes
+pub mod EndOutcomes
+pub mod Placing
+pub mod Samples

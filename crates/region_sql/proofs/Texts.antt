@@ -17,7 +17,7 @@ pub is_text : {A : Type 0} (f : Form A) (total : ℕ) (text : List ℕ) (ts : Li
 is_text f total text ts es rest true v lexes ends e read = (ts, (rest, lexes-splits total text ts es rest lexes, ends), whole-fits f ts v read)
 is_text f total text ts es rest false v lexes ends e read = absurd cc
 
-no-token : (b : Bool) (rest : List ℕ) → Ends b rest → token_at (after_blanks rest) ≡ None
+pub no-token : (b : Bool) (rest : List ℕ) → Ends b rest → token_at (after_blanks rest) ≡ None
 no-token true rest ends = ended-here rest ends
 no-token false rest ends = ends.1
 

@@ -4,3 +4,4 @@ pub mod Reading
 pub mod Grammar
 pub mod Lexing
 pub mod Faults
+pub mod Places

@@ -1,6 +1,6 @@
 //! The tokens of a whole text.
 
-ghost use Rattle.std.specs.Prelude.{◌≡◌, ℕ, List, length, IfOk};
+ghost use Rattle.std.specs.Prelude.{◌≡◌, ◌∷◌, ◌-◌, ℕ, List, length, slice_index, IfOk};
 ghost use Rattle.region_sql.specs.Lexing.{Lexes, Ends};
 
 use crate::byte_classes::after_blanks;
@@ -21,7 +21,9 @@ pub(crate) struct Lexed {
 
 impl Lexed {
     /// The place just after all the tokens but the last `left`.
-    pub(crate) fn place(&self, left: usize) -> usize {
+    pub(crate) fn place(&self, left: usize) -> usize
+        ensures { result ≡ slice_index (0 ∷ self.now.ends.items) (length self.now.ends.items - left) }
+    {
         match self.ends.len().saturating_sub(left) {
             0 => 0,
             taken => self.ends[taken - 1],

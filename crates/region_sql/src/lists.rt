@@ -1,4 +1,4 @@
-//! Lists of row statements.
+//! Lists of row statements, and single statements of both kinds.
 
 ghost use Rattle.std.specs.Prelude.{◌≡◌};
 ghost use Rattle.region_sql.specs.Grammar.{row_statement, row_statements, region_statement, statement};

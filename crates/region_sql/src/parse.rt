@@ -1,7 +1,8 @@
 //! Statements and lists from their texts.
 
 ghost use Rattle.std.specs.Prelude.{◌≡◌, ℕ, ◌<◌, ◌≤◌, List, length, IfOk, IsErrOf};
-ghost use Rattle.region_sql.specs.Grammar.{IsListText, IsStatementText};
+ghost use Rattle.region_sql.specs.Grammar.{IsListText, IsStatementText, row_statements, statement};
+ghost use Rattle.region_sql.specs.Places.{IsPlace};
 ghost use Rattle.region_sql.specs.Faults.{IfSyntax};
 ghost use Rattle.region_sql.specs.declared.row_statements.RowStatement.{RowStatement as AnyRowStatement};
 ghost use Rattle.region_sql.specs.declared.statements.ParseFault.TheVariants.{TooMany};
@@ -20,12 +21,14 @@ const MOST_STATEMENTS: usize = 64;
 ///
 /// # Errors
 ///
-/// `Syntax` where the text is no list, `TooMany` where it is one of more than 64 statements.
+/// `Syntax` where the text is no list, at the place just after the longest run of its tokens with
+/// which a list begins. `TooMany` where it is a list of more than 64 statements.
 pub fn parse_list(alloc: Global, s: &[u8]) -> Result<List, ParseFault>
     ensures value { IfOk result (λ list. IsListText s.now list) }
     ensures few { IfOk result (λ list. length list ≤ 64) }
     ensures too_many { IsErrOf result TooMany → (list : List AnyRowStatement) × IsListText s.now list × (64 < length list) }
     ensures syntax { IfSyntax result (λ at. (list : List AnyRowStatement) → IsListText s.now list → ⊥) }
+    ensures place { IfSyntax result (λ at. IsPlace row_statements s.now at) }
 {
     let lexed = lex(alloc, s)?;
     match list_of_tokens(alloc, &lexed.tokens) {
@@ -49,11 +52,13 @@ pub fn parse_list(alloc: Global, s: &[u8]) -> Result<List, ParseFault>
 ///
 /// # Errors
 ///
-/// `Syntax` where the text is no statement.
+/// `Syntax` where the text is no statement, at the place just after the longest run of its tokens with
+/// which a statement begins.
 pub fn parse_statement(alloc: Global, s: &[u8]) -> Result<Statement, ParseFault>
-    ensures value { IfOk result (λ statement. IsStatementText s.now statement) }
+    ensures value { IfOk result (λ read. IsStatementText s.now read) }
     ensures one { IsErrOf result TooMany → ⊥ }
-    ensures syntax { IfSyntax result (λ at. (statement : AnyStatement) → IsStatementText s.now statement → ⊥) }
+    ensures syntax { IfSyntax result (λ at. (other : AnyStatement) → IsStatementText s.now other → ⊥) }
+    ensures place { IfSyntax result (λ at. IsPlace statement s.now at) }
 {
     let lexed = lex(alloc, s)?;
     match statement_of_tokens(alloc, &lexed.tokens) {
