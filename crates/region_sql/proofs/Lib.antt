@@ -1,1 +1,16 @@
+pub mod Bytes
+pub mod EndOutcomes
+pub mod Exact
+pub mod Firsts
+pub mod Good
+pub mod GoodForms
+pub mod GoodRegionForms
+pub mod Lexes
+pub mod ListOutcomes
+pub mod Loops
 pub mod NoForm
+pub mod Outcomes
+pub mod Placing
+pub mod Plain
+pub mod Samples
+pub mod Texts

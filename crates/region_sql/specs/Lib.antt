@@ -1,2 +1,9 @@
+pub mod Faults
 pub mod FirstForms
+pub mod Forms
+pub mod Grammar
 pub mod IntText
+pub mod Lexing
+pub mod Places
+pub mod Reading
+pub mod Tokens

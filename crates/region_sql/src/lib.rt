@@ -2,13 +2,32 @@
 #![tactic(auto)]
 
 mod first_forms;
+mod byte_classes;
+mod databases;
+mod lexer;
+mod lexing;
+mod listing;
+mod lists;
+mod numbers;
+mod parse;
+mod region_readers;
 mod region_statements;
+mod row_readers;
 mod row_statements;
 mod statements;
+mod stuck;
+mod token_readers;
+mod tokens;
+mod words;
 
 pub use first_forms::{FirstStatement, first_statement, int_of};
+pub use parse::{one_meaning, parse_list, parse_statement};
 pub use region_statements::{ColumnKey, ColumnType, Goal, Item, Locality, RegionStatement};
 pub use row_statements::{
     Comparison, Literal, Literals, RowStatement, Target, Term, Value, Wanted,
 };
 pub use statements::{List, ParseFault, Statement};
+pub use tokens::{Key, Sign, Soft, Token};
+
+#[cfg(test)]
+mod tests;

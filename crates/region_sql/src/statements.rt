@@ -1,8 +1,11 @@
 //! Statements of both kinds, lists of them, and why a text is none.
 
+ghost use Rattle.std.specs.Prelude.{◌≡◌};
+ghost use Rattle.region_sql.specs.declared.statements.ParseFault.TheVariants.{Memory as OutOfMemory};
+
 use crate::region_statements::RegionStatement;
 use crate::row_statements::RowStatement;
-use mr_base::ListOf;
+use mr_base::{ListOf, Memory};
 
 /// One statement.
 #[derive(Debug, PartialEq, Eq, Drop)]
@@ -23,4 +26,12 @@ pub enum ParseFault {
     /// The list has more than 64 statements.
     TooMany,
     Memory,
+}
+
+impl From<Memory> for ParseFault {
+    ghost from_gives = { λ _ e. e ≡ OutOfMemory };
+
+    fn from(_e: Memory) -> ParseFault {
+        ParseFault::Memory
+    }
 }
