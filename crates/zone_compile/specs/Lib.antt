@@ -1,0 +1,4 @@
+pub mod Configuration
+pub mod Json
+pub mod JsonMembers
+pub mod Text
