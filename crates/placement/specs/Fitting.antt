@@ -1,14 +1,12 @@
-use Rattle.std.specs.Prelude.{◌≡◌, ◌≢◌, ℕ, ◌<◌, ◌≤◌, ◌⊎◌, List, [], ◌++◌, map, length, count_by, All, AllPairs, Contains, IfSome, IsSomeAnd, slice_get, Option, Some, None}
+use Rattle.std.specs.Prelude.{◌≡◌, ◌≢◌, ℕ, ◌<◌, ◌≤◌, ◌⊎◌, List, [], ◌++◌, map, length, count_by, All, AllPairs, Contains, IfSome, IsSomeAnd, slice_get, Some, None}
 use Rattle.std.specs.Str.{bytes_eq}
 use Rattle.mr_base.specs.declared.ids.NodeId.{NodeId}
-use Rattle.mr_base.specs.declared.nodes.NodeSet.{NodeSet}
 use Rattle.mr_base.specs.declared.nodes.NodeInfo.{NodeInfo}
-use Rattle.region_sql.specs.declared.region_statements.Goal.{Goal}
 use Rattle.region_sql.specs.declared.region_statements.Goal.TheVariants.{Zone, Region}
 use Rattle.descriptors.specs.Sound.{AreDistinct}
 use Rattle.zone_compile.specs.declared.config.ZoneConfig.{ZoneConfig}
 use Rattle.placement.specs.declared.placement_types.Placement.{Placement}
-use Rattle.placement.specs.Majority.{KeepsMajority, IsLossOf}
+use Rattle.placement.specs.Majority.{SurvivesLosses}
 
 abbrev pub ids_of : List NodeInfo → List NodeId
 ids_of nodes = map (λ s. s.id) nodes
@@ -46,7 +44,7 @@ pub record Fits (c : ZoneConfig) (nodes : List NodeInfo) (p : Placement) : Type 
   pub two_at_home : c.goal ≡ Some Region → IfSome c.lease (λ home. 2 ≤ count_in home at)
   pub two_at_most : c.goal ≡ Some Region → (region : List ℕ) → count_in region at ≤ 2
   pub first_at_home : IfSome c.lease (λ home. IsSomeAnd (slice_get at 0) (λ s. s.region ≡ home))
-  pub survives : (lost : NodeSet) → IsLossOf c.goal nodes lost → KeepsMajority p.voters lost
+  pub survives : SurvivesLosses c.goal nodes p.voters
 
 -- Nodes among which a configuration is placed: some, in the order of their numbers, and one at least in
 -- each region that it names.

@@ -20,3 +20,7 @@ abbrev pub IsLossOf : Option Goal → List NodeInfo → NodeSet → Type 0
 IsLossOf None nodes lost = ⊥
 IsLossOf (Some Zone) nodes lost = (region zone : List ℕ) × All (λ s. IsMember lost s.id → (s.region ≡ region) × (s.zone ≡ zone)) nodes
 IsLossOf (Some Region) nodes lost = (region : List ℕ) × All (λ s. IsMember lost s.id → s.region ≡ region) nodes
+
+-- These voters keep a majority after any one loss of the kind that the goal names.
+abbrev pub SurvivesLosses : Option Goal → List NodeInfo → List NodeId → Type 0
+SurvivesLosses goal nodes voters = (lost : NodeSet) → IsLossOf goal nodes lost → KeepsMajority voters lost

@@ -1,4 +1,4 @@
-use Rattle.std.specs.Prelude.{◌≡◌, ℕ, ◌-◌, ◌<◌, List, [], ◌∷◌, ◌++◌, map, filter, length, take, drop, slice_get, Option, Some, None, Bool, ◌&&◌, not, nat_lt, if◌then◌else◌, ⊤, Result, MatchResult}
+use Rattle.std.specs.Prelude.{◌≡◌, ℕ, ◌-◌, List, [], ◌∷◌, ◌++◌, filter, length, take, drop, slice_get, Option, Some, None, Bool, ◌&&◌, not, nat_lt, if◌then◌else◌, ⊤, Result, MatchResult}
 use Rattle.std.specs.List.{filter_map, list_any}
 use Rattle.std.specs.Str.{bytes_eq}
 use Rattle.mr_base.specs.declared.nodes.NodeInfo.{NodeInfo}
@@ -8,7 +8,7 @@ use Rattle.zone_compile.specs.declared.config.ZoneConfig.{ZoneConfig}
 use Rattle.placement.specs.declared.placement_types.Placement.{Placement}
 use Rattle.placement.specs.declared.placement_types.PlaceRefusal.{PlaceRefusal}
 use Rattle.placement.specs.declared.placement_types.PlaceRefusal.TheVariants.{Unplaceable, Memory}
-use Rattle.placement.specs.Fitting.{ids_of, constrained_regions}
+use Rattle.placement.specs.Fitting.{Fits, ids_of, constrained_regions}
 
 -- Which nodes a placement takes, where nodes stand in the order of their numbers. (This project's
 -- profile.)
@@ -89,3 +89,8 @@ IsRefusal lease lack (Unplaceable region wanted found) = (lease ≡ Some region)
 -- What a call answers that places nodes so, or lacks this.
 abbrev pub Answers : Option (List ℕ) → Option (ℕ × ℕ) → Placement → Result Placement PlaceRefusal → Type 0
 Answers lease lack p result = MatchResult result (λ q. (lack ≡ None) × (q ≡ p)) (IsRefusal lease lack)
+
+-- A refusal for want of nodes means that no placement fits.
+abbrev pub NoneFits : ZoneConfig → List NodeInfo → PlaceRefusal → Type 0
+NoneFits c nodes Memory = ⊤
+NoneFits c nodes (Unplaceable region wanted found) = (p : Placement) → Fits c nodes p → ⊥

@@ -3,8 +3,9 @@
 ghost use Rattle.std.specs.Prelude.{◌≡◌, [], None, Some, IfErr, IfOk};
 ghost use Rattle.region_sql.specs.declared.region_statements.Goal.TheVariants as goals;
 ghost use Rattle.zone_compile.specs.Configuration.{HasForm};
-ghost use Rattle.placement.specs.Fitting.{ServeFor, constrained_regions};
-ghost use Rattle.placement.specs.Placing.{Answers, IsRefusal, lack_at, lack_of, placed_at, placement_of};
+ghost use Rattle.placement.specs.Majority.{SurvivesLosses};
+ghost use Rattle.placement.specs.Fitting.{Fits, ServeFor, constrained_regions};
+ghost use Rattle.placement.specs.Placing.{Answers, IsRefusal, NoneFits, lack_at, lack_of, placed_at, placement_of};
 
 use crate::chosen::{each_at, from_place, lowest, nodes_in, one_per_zone, two_and_three};
 use crate::placement_types::{PlaceRefusal, Placement};
@@ -13,10 +14,18 @@ use region_sql::Goal;
 use std::alloc::Global;
 use zone_compile::ZoneConfig;
 
-/// The nodes of a range's voters and of its other replicas, taken in the order of their numbers.
+/// The nodes of a range's voters and of its other replicas, taken in the order of their numbers: a
+/// placement that fits the configuration and keeps a majority of its voters after any one loss of the
+/// kind that the configuration's goal names. It is refused for want of nodes only where no placement
+/// fits.
 pub fn place(alloc: Global, c: &ZoneConfig, nodes: &[NodeInfo]) -> Result<Placement, PlaceRefusal>
     requires form { HasForm c.now }
     requires nodes { ServeFor c.now nodes.now }
+    ensures fits { IfOk result (Fits c.now nodes.now) }
+    ensures none_fits { IfErr result (NoneFits c.now nodes.now) }
+    ensures survives { IfOk result (λ p. SurvivesLosses c.now.goal nodes.now p.voters) }
+
+    // Which nodes they are, and what is lacking where there are none.
     ensures placement { IfOk result (λ p. p ≡ placement_of c.now nodes.now) }
     ensures lacks_nothing { IfOk result (λ _. lack_of c.now nodes.now ≡ None) }
     ensures lack { IfErr result (IsRefusal c.now.lease (lack_of c.now nodes.now)) }

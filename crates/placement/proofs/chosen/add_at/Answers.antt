@@ -1,5 +1,4 @@
-use Rattle.std.proofs.Common.{[], ◌++◌, ap, sym, ◌∙◌}
-use Rattle.std.specs.List.{cons_option}
+use Rattle.std.proofs.Common.{sym}
 use Rattle.std.proofs.lemmas.List.{append-nil}
 use Rattle.std.proofs.lemmas.Option.{slice_get_past}
 use Rattle.placement.proofs.chosen.add_at.Goals as goal
