@@ -10,7 +10,7 @@ use Rattle.placement.specs.declared.placement_types.Placement.{Placement}
 use Rattle.placement.specs.declared.placement_types.PlaceRefusal.{PlaceRefusal}
 use Rattle.placement.specs.declared.placement_types.PlaceRefusal.TheVariants.{Unplaceable, Memory}
 use Rattle.placement.specs.Majority.{SurvivesLosses}
-use Rattle.placement.specs.Fitting.{Fits, ServeFor}
+use Rattle.placement.specs.Fitting.{Fits, Names, ServeFor}
 use Rattle.placement.specs.Placing.{Answers, NoneFits, lack_of, other_regions, placement_of}
 use Rattle.placement.proofs.Lists.{Has, Pairs, all_from_has, contains_from_has, has_from_contains, map_has, pairs_from_all}
 use Rattle.placement.proofs.Regions.{bytes_differ, bytes_same}
@@ -130,3 +130,16 @@ answer_none c nodes form serve (Err (Unplaceable region w f)) a = no_placement_f
 pub answer_survives : (c : ZoneConfig) (nodes : List NodeInfo) (r : Result Placement PlaceRefusal) → IfOk r (Fits c nodes) → IfOk r (λ p. SurvivesLosses c.goal nodes p.voters)
 answer_survives c nodes (Ok q) fits = fits.survives
 answer_survives c nodes (Err e) fits = tt
+
+lone_names : (region : List ℕ) → Names without_regions region → ⊥
+lone_names region (inl e) = cc
+lone_names region (inr h) = has_from_contains [] region h
+
+-- one node serves for a database without regions
+pub lone_serves : (c : ZoneConfig) (nodes : List NodeInfo) → c ≡ without_regions → length nodes ≡ 1 → ServeFor c nodes
+lone_serves c [] e one = absurd (omega arith)
+lone_serves c (s ∷ t ∷ nodes) e one = absurd (omega arith)
+lone_serves c (s ∷ []) e one = record {
+  some = λ none. cc;
+  rising = λ i j d low high. absurd (omega arith);
+  each = λ region names. let P : ZoneConfig → Type 0 = λ x. Names x region in absurd (lone_names region (subst P e names)) }

@@ -9,3 +9,8 @@ mod placement_types;
 pub use majority::keeps_majority;
 pub use placed::place;
 pub use placement_types::{PlaceRefusal, Placement};
+
+#[cfg(test)]
+mod plain;
+#[cfg(test)]
+mod tests;

@@ -1,2 +1,3 @@
-pub mod JsonLemmas
+pub mod ExampleFacts
 pub mod Forms
+pub mod JsonLemmas

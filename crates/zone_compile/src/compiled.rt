@@ -28,7 +28,7 @@ pub fn compile(
     configuration(alloc, database, &table.locality, partition)
 }
 
-fn configuration(
+pub(crate) fn configuration(
     alloc: Global,
     database: &Database,
     locality: &Option<Locality>,

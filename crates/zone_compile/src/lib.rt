@@ -11,3 +11,6 @@ pub use compiled::compile;
 pub use config::ZoneConfig;
 pub use json_form::json;
 pub use text_form::text;
+
+#[cfg(test)]
+mod tests;
