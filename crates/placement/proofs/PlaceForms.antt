@@ -142,4 +142,5 @@ lone_serves c (s ∷ t ∷ nodes) e one = absurd (omega arith)
 lone_serves c (s ∷ []) e one = record {
   some = λ none. cc;
   rising = λ i j d low high. absurd (omega arith);
-  each = λ region names. let P : ZoneConfig → Type 0 = λ x. Names x region in absurd (lone_names region (subst P e names)) }
+  each = λ region names. let P : ZoneConfig → Type 0 = λ x. Names x region in absurd (lone_names region (subst P e names));
+}

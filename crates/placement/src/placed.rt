@@ -33,7 +33,11 @@ pub fn place(alloc: Global, c: &ZoneConfig, nodes: &[NodeInfo]) -> Result<Placem
     chosen(alloc, c, nodes)
 }
 
-pub(crate) fn chosen(alloc: Global, c: &ZoneConfig, nodes: &[NodeInfo]) -> Result<Placement, PlaceRefusal>
+pub(crate) fn chosen(
+    alloc: Global,
+    c: &ZoneConfig,
+    nodes: &[NodeInfo],
+) -> Result<Placement, PlaceRefusal>
     ensures { Answers c.now.lease (lack_of c.now nodes.now) (placement_of c.now nodes.now) result }
 {
     match &c.lease {

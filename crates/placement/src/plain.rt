@@ -3,6 +3,7 @@
 use region_sql::Goal;
 
 pub(crate) const OTHER: u8 = 1;
+
 pub(crate) const VOTER: u8 = 2;
 
 /// A node, and what it is in a choice: nothing, a voter or another replica.
@@ -40,7 +41,11 @@ impl Wanted {
         Wanted {
             goal: Goal::Zone,
             home,
-            replicas: if is_restricted { 3 } else { others.saturating_add(3) },
+            replicas: if is_restricted {
+                3
+            } else {
+                others.saturating_add(3)
+            },
             voters: 3,
             is_restricted,
         }

@@ -18,7 +18,10 @@ struct Draws(u64);
 
 impl Draws {
     fn next(&mut self) -> u32 {
-        self.0 = self.0.wrapping_mul(6364136223846793005).wrapping_add(1442695040888963407);
+        self.0 = self
+            .0
+            .wrapping_mul(6364136223846793005)
+            .wrapping_add(1442695040888963407);
         (self.0 >> 33) as u32
     }
 }
@@ -95,12 +98,7 @@ fn mark(sites: &mut [Site], ids: &[NodeId], role: u8) {
 }
 
 /// Whether `chosen` agrees with the search: 0 where it doesn't, else what it answered.
-fn agrees(
-    alloc: Global,
-    w: &Wanted,
-    regions: &[u8],
-    sites: &mut [Site],
-) -> Result<u32, Memory> {
+fn agrees(alloc: Global, w: &Wanted, regions: &[u8], sites: &mut [Site]) -> Result<u32, Memory> {
     let c = config(alloc, w, regions)?;
     let nodes = nodes(alloc, sites)?;
     let there_is_one = some_choice_fits(w, regions, sites);
@@ -112,7 +110,11 @@ fn agrees(
             mark(sites, p.others.as_slice(), OTHER);
             mark(sites, p.voters.as_slice(), VOTER);
             let counted = p.voters.len() == w.voters;
-            Ok(if there_is_one && counted && fits(w, regions, sites) { 1 } else { 0 })
+            Ok(if there_is_one && counted && fits(w, regions, sites) {
+                1
+            } else {
+                0
+            })
         }
         Err(PlaceRefusal::Unplaceable { wanted, .. }) => Ok(if there_is_one { 0 } else { wanted }),
         Err(PlaceRefusal::Memory) => Err(Memory),
@@ -189,8 +191,20 @@ fn worked_examples(rt: HostRuntime) -> Result<(), Fail> {
         let Ok(p) = chosen(alloc, &c, nodes.as_slice()) else {
             return Err(Memory.into());
         };
-        assert!(rt; p.voters.as_slice().iter().map(|n| n.0).eq(voters.iter().copied()));
-        assert!(rt; p.others.as_slice().iter().map(|n| n.0).eq(others.iter().copied()));
+        assert!(rt;
+            p.voters
+                .as_slice()
+                .iter()
+                .map(|n| n.0)
+                .eq(voters.iter().copied())
+        );
+        assert!(rt;
+            p.others
+                .as_slice()
+                .iter()
+                .map(|n| n.0)
+                .eq(others.iter().copied())
+        );
     }
     Ok(())
 }
@@ -202,7 +216,16 @@ fn two_zones_are_too_few(rt: HostRuntime) -> Result<(), Fail> {
     let nodes = nodes(alloc, three.as_slice())?;
     let c = config(alloc, &Wanted::drawn(0, 1, 0), &[0])?;
     let refused = chosen(alloc, &c, nodes.as_slice());
-    assert!(rt; matches!(refused, Err(PlaceRefusal::Unplaceable { wanted: 3, found: 2, .. })));
+    assert!(rt;
+        matches!(
+            refused,
+            Err(PlaceRefusal::Unplaceable {
+                wanted: 3,
+                found: 2,
+                ..
+            })
+        )
+    );
     Ok(())
 }
 

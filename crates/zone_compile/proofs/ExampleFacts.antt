@@ -56,7 +56,8 @@ example_is_sound d e = record {
   distinct = rw e.regions three_distinct;
   primary = rw (e.regions, e.primary) (omega arith);
   enough = λ _. rw e.regions (omega arith);
-  restricted = λ r. (rw e.regions (λ none. cc), e.restricted r) }
+  restricted = λ r. (rw e.regions (λ none. cc), e.restricted r);
+}
 
 pub example_table_is_sound : (d : Database) (t : Table) → IsExample d → IsExampleTable t → IsSoundIn d t
 example_table_is_sound d t e f = record {
@@ -71,9 +72,11 @@ example_table_is_sound d t e f = record {
     key_distinct = rw f.key (one_pairs (λ x y. x ≢ y) 0);
     key_places = rw (f.key, f.columns) (All-cons (λ k. k < 1) 0 [] (omega arith) (All-nil (λ k. k < 1)));
     unique_rises = rw f.unique (λ i j d low high. absurd (omega arith));
-    unique_places = rw f.unique (λ k d high. absurd (omega arith)) };
+    unique_places = rw f.unique (λ k d high. absurd (omega arith));
+  };
   database = f.database ∙ sym e.name;
-  locality = rw (f.locality, e.regions) (λ none. cc) }
+  locality = rw (f.locality, e.regions) (λ none. cc);
+}
 
 pub example_text : (t : Table) → IsExampleTable t → IsUtf8 t.name
 example_text t f = rw f.name (text_of (codes "t") refl)

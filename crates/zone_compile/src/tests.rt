@@ -54,7 +54,8 @@ fn the_worked_example_as_json(rt: HostRuntime) -> Result<(), Fail> {
     let t = table(alloc)?;
     let c = compile(alloc, &d, &t, None)?;
     let text = json(alloc, &c, RangeId(1), t.name.as_slice(), None)?;
-    let expected: &[u8] = b"{\"constraints\":{\"eu-west\":1,\"us-east\":1,\"us-west\":1},\"global_reads\":false,\"lease_preferences\":[\"us-east\"],\"num_replicas\":5,\"num_voters\":3,\"partition\":null,\"range\":1,\"table\":\"t\",\"voter_constraints\":{\"us-east\":3}}";
+    let expected: &[u8] =
+        b"{\"constraints\":{\"eu-west\":1,\"us-east\":1,\"us-west\":1},\"global_reads\":false,\"lease_preferences\":[\"us-east\"],\"num_replicas\":5,\"num_voters\":3,\"partition\":null,\"range\":1,\"table\":\"t\",\"voter_constraints\":{\"us-east\":3}}";
     assert!(rt; text.as_slice() == expected);
     Ok(())
 }
@@ -64,10 +65,38 @@ fn texts_of_three_regions(rt: HostRuntime) -> Result<(), Fail> {
     let alloc = rt.alloc();
     let everywhere: &[u8] = b"'{+region=us-east: 1, +region=us-west: 1, +region=eu-west: 1}'";
     let cases: [(Goal, bool, Locality, &[u8], &[u8], &[u8]); 4] = [
-        (Goal::Zone, false, Locality::InPrimary, b"num_replicas = 5, num_voters = 3", everywhere, b"'[+region=us-east]'"),
-        (Goal::Region, false, Locality::InPrimary, b"num_replicas = 5, num_voters = 5", everywhere, b"'{+region=us-east: 2}'"),
-        (Goal::Zone, true, Locality::InPrimary, b"num_replicas = 3, num_voters = 3", b"'[]'", b"'[+region=us-east]'"),
-        (Goal::Zone, true, Locality::Global, b"global_reads = true, num_replicas = 5, num_voters = 3", everywhere, b"'[+region=us-east]'"),
+        (
+            Goal::Zone,
+            false,
+            Locality::InPrimary,
+            b"num_replicas = 5, num_voters = 3",
+            everywhere,
+            b"'[+region=us-east]'",
+        ),
+        (
+            Goal::Region,
+            false,
+            Locality::InPrimary,
+            b"num_replicas = 5, num_voters = 5",
+            everywhere,
+            b"'{+region=us-east: 2}'",
+        ),
+        (
+            Goal::Zone,
+            true,
+            Locality::InPrimary,
+            b"num_replicas = 3, num_voters = 3",
+            b"'[]'",
+            b"'[+region=us-east]'",
+        ),
+        (
+            Goal::Zone,
+            true,
+            Locality::Global,
+            b"global_reads = true, num_replicas = 5, num_voters = 3",
+            everywhere,
+            b"'[+region=us-east]'",
+        ),
     ];
     for (goal, restricted, locality, numbers, constraints, voters) in cases {
         let mut d = three_regions(alloc, Goal::Zone, false)?;
@@ -75,7 +104,14 @@ fn texts_of_three_regions(rt: HostRuntime) -> Result<(), Fail> {
         d.restricted = restricted;
         let c = configuration(alloc, &d, &Some(locality), None)?;
         let mut expected = Vec::new(alloc);
-        for part in [numbers, b", constraints = ", constraints, b", voter_constraints = ", voters, b", lease_preferences = '[[+region=us-east]]'"] {
+        for part in [
+            numbers,
+            b", constraints = ",
+            constraints,
+            b", voter_constraints = ",
+            voters,
+            b", lease_preferences = '[[+region=us-east]]'",
+        ] {
             expected.extend_from_slice(part)?;
         }
         assert!(rt; text(alloc, &c)?.as_slice() == expected.as_slice());
