@@ -1,0 +1,82 @@
+use Rattle.std.proofs.Common.{◌≡◌, ◌≢◌, ℕ, zero, suc, ◌<◌, ◌≤◌, List, [], ◌∷◌, length, true, false, codes, refl, sym, ◌∙◌, arith}
+use Rattle.std.specs.Prelude.{Bool, ◌&&◌, nat_lt, All, AllPairs, IsUtf8, map, Some}
+use Rattle.std.specs.List.{list_all}
+use Rattle.std.specs.Str.{IsAscii, bytes_eq}
+use Rattle.std.proofs.lemmas.Bool.Decides.{nat_tests}
+use Rattle.std.proofs.lemmas.List.Elements.{All-cons, All-nil}
+use Rattle.std.proofs.lemmas.Slice.Eq.{bytes_eq-Decides}
+use Rattle.std.proofs.lemmas.Str.{IsUtf8-from_ascii}
+use Rattle.descriptors.specs.declared.database.Database.{Database}
+use Rattle.descriptors.specs.declared.table.Table.{Table}
+use Rattle.descriptors.specs.Sound.{AreDistinct, IsSoundDatabase, IsSoundIn, IsSoundTable}
+use Rattle.zone_compile.specs.Examples.{IsExample, IsExampleTable, example_regions}
+
+both : (a b : Bool) → (a && b) ≡ true → (a ≡ true) × (b ≡ true)
+both true b e = (refl, e)
+both false b e = cc
+
+ascii_of : (bs : List ℕ) → list_all (λ b. nat_lt b 128) bs ≡ true → IsAscii bs
+ascii_of [] e i = omega arith
+ascii_of (b ∷ bs) e zero = let here = (both (nat_lt b 128) (list_all (λ x. nat_lt x 128) bs) e).0 in grind (arith, nat_tests)
+ascii_of (b ∷ bs) e (suc i) = ascii_of bs (both (nat_lt b 128) (list_all (λ x. nat_lt x 128) bs) e).1 i
+
+text_of : (bs : List ℕ) → list_all (λ b. nat_lt b 128) bs ≡ true → IsUtf8 bs
+text_of bs e = IsUtf8-from_ascii bs (ascii_of bs e)
+
+differ : (a b : List ℕ) → bytes_eq a b ≡ false → a ≢ b
+differ a b other e = let yes = (bytes_eq-Decides a b).1 e in cc
+
+three_pairs : {A : Type 0} (R : A → A → Type 0) (a b c : A) → R a b → R a c → R b c → AllPairs R (a ∷ b ∷ c ∷ [])
+three_pairs R a b c p q r i zero d low high = absurd (omega arith)
+three_pairs R a b c p q r zero (suc zero) d low high = p
+three_pairs R a b c p q r (suc i) (suc zero) d low high = absurd (omega arith)
+three_pairs R a b c p q r zero (suc (suc zero)) d low high = q
+three_pairs R a b c p q r (suc zero) (suc (suc zero)) d low high = r
+three_pairs R a b c p q r (suc (suc i)) (suc (suc zero)) d low high = absurd (omega arith)
+three_pairs R a b c p q r i (suc (suc (suc j))) d low high = absurd (omega arith)
+
+one_pairs : {A : Type 0} (R : A → A → Type 0) (a : A) → AllPairs R (a ∷ [])
+one_pairs R a i j d low high = absurd (omega arith)
+
+three_texts : All IsUtf8 example_regions
+three_texts =
+    All-cons IsUtf8 (codes "us-east") (codes "us-west" ∷ codes "eu-west" ∷ []) (text_of (codes "us-east") refl)
+    (All-cons IsUtf8 (codes "us-west") (codes "eu-west" ∷ []) (text_of (codes "us-west") refl)
+    (All-cons IsUtf8 (codes "eu-west") [] (text_of (codes "eu-west") refl) (All-nil IsUtf8)))
+
+three_distinct : AreDistinct example_regions
+three_distinct = three_pairs (λ x y. x ≢ y) (codes "us-east") (codes "us-west") (codes "eu-west")
+    (differ (codes "us-east") (codes "us-west") refl) (differ (codes "us-east") (codes "eu-west") refl) (differ (codes "us-west") (codes "eu-west") refl)
+
+pub example_is_sound : (d : Database) → IsExample d → IsSoundDatabase d
+example_is_sound d e = record {
+  name = rw e.name (text_of (codes "d") refl);
+  regions = rw e.regions three_texts;
+  few = rw e.regions (omega arith);
+  distinct = rw e.regions three_distinct;
+  primary = rw (e.regions, e.primary) (omega arith);
+  enough = λ _. rw e.regions (omega arith);
+  restricted = λ r. (rw e.regions (λ none. cc), e.restricted r);
+}
+
+pub example_table_is_sound : (d : Database) (t : Table) → IsExample d → IsExampleTable t → IsSoundIn d t
+example_table_is_sound d t e f = record {
+  table = record {
+    name = rw f.name (text_of (codes "t") refl);
+    columns = rw f.columns (All-cons (λ c. IsUtf8 c.0) _ [] (text_of (codes "id") refl) (All-nil (λ c. IsUtf8 c.0)));
+    some = rw f.columns (omega arith);
+    few = rw f.columns (omega arith);
+    named = rw f.columns (one_pairs (λ x y. x ≢ y) (codes "id"));
+    not_hidden = rw f.columns (All-cons (λ c. c.0 ≢ codes "crdb_region") _ [] (differ (codes "id") (codes "crdb_region") refl) (All-nil (λ c. c.0 ≢ codes "crdb_region")));
+    key = rw f.key (omega arith);
+    key_distinct = rw f.key (one_pairs (λ x y. x ≢ y) 0);
+    key_places = rw (f.key, f.columns) (All-cons (λ k. k < 1) 0 [] (omega arith) (All-nil (λ k. k < 1)));
+    unique_rises = rw f.unique (λ i j d low high. absurd (omega arith));
+    unique_places = rw f.unique (λ k d high. absurd (omega arith));
+  };
+  database = f.database ∙ sym e.name;
+  locality = rw (f.locality, e.regions) (λ none. cc);
+}
+
+pub example_text : (t : Table) → IsExampleTable t → IsUtf8 t.name
+example_text t f = rw f.name (text_of (codes "t") refl)

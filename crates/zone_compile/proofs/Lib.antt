@@ -1,0 +1,3 @@
+pub mod ExampleFacts
+pub mod Forms
+pub mod JsonLemmas

@@ -1,0 +1,5 @@
+pub mod Configuration
+pub mod Examples
+pub mod Json
+pub mod JsonMembers
+pub mod Text

@@ -1,0 +1,16 @@
+//! The zone configuration of each range: how many replicas and voters it has, where they stand, and
+//! where its lease prefers to be.
+#![tactic(auto)]
+
+mod compiled;
+mod config;
+mod json_form;
+mod text_form;
+
+pub use compiled::compile;
+pub use config::ZoneConfig;
+pub use json_form::json;
+pub use text_form::text;
+
+#[cfg(test)]
+mod tests;
