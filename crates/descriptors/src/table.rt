@@ -1,5 +1,7 @@
 //! A table and its columns.
 
+ghost use Rattle.std.specs.Prelude.{◌≡◌};
+
 use mr_base::{Bytes, ListOf};
 use region_sql::{ColumnType, Locality};
 
@@ -14,4 +16,15 @@ pub struct Table {
     pub key: ListOf<usize>,
     pub unique: ListOf<usize>,
     pub locality: Option<Locality>,
+}
+
+impl Table {
+    ghost use Rattle.descriptors.specs.Changes.{with_locality};
+
+    /// Where the table lives.
+    pub(crate) fn set_locality(&mut self, locality: Locality)
+        ensures { self.new ≡ with_locality locality self.old }
+    {
+        self.locality = Some(locality);
+    }
 }

@@ -1,0 +1,5 @@
+mod Additions
+mod Edits
+mod Index
+mod Lookups
+mod Steps

@@ -1,0 +1,181 @@
+//! What accepted statements make of a store.
+
+ghost use Rattle.std.specs.Prelude.{◌≡◌, ◌≢◌, ◌<◌, [], ◌∷◌, ◌++◌, All, AllPairs, IsSomeAnd, IfOk, OnOk, OnErr, None, Some, false, length, map, position, vec_len, vec_capacity};
+ghost use Rattle.std.specs.Option.{option_map_or};
+ghost use Rattle.std.specs.Str.{bytes_eq};
+ghost use Rattle.descriptors.specs.Contents.{is_database, is_table, database_named, table_named, current_database};
+ghost use Rattle.descriptors.specs.Lists.{changed};
+ghost use Rattle.descriptors.specs.Changes.{with_table, with_locality, with_database, with_first_region, with_goal, with_primary, with_region, with_restricted, without_region, homed_in_primary};
+
+use crate::database::Database;
+use crate::lists::{place_of, without};
+use crate::names::Names;
+use crate::store::{Entry, Store};
+use crate::table::Table;
+use mr_base::{Bytes, ListOf, Memory};
+use region_sql::{Goal, Locality};
+use std::alloc::Global;
+
+impl Store {
+    /// A new database, which is the current one from then on. The store is unchanged after want of memory.
+    pub(crate) fn add_database(&mut self, database: Database) -> Result<(), Memory>
+        requires absent { database_named database.name self.old.databases ≡ None }
+        requires alone { All (λ t. bytes_eq database.name t.database ≡ false) self.old.tables }
+        ensures ok { OnOk result (self.new ≡ record self.old { databases = self.old.databases ++ database ∷ []; current = Some (length self.old.databases) }) }
+        ensures err { OnErr result (self.new ≡ self.old) }
+    {
+        let place = self.entries.len();
+        self.entries.reserve(1)?;
+        self.places
+            .insert(self.alloc, database.name.as_slice(), place)?;
+        let tables = Names::new(self.alloc);
+        push_within(&mut self.entries, Entry { database, tables });
+        self.current = Some(place);
+        Ok(())
+    }
+
+    /// USE
+    pub(crate) fn set_current(&mut self, name: &[u8])
+        ensures { self.new ≡ record self.old { current = position (is_database name.now) self.old.databases } }
+    {
+        self.current = self.place_of_database(name);
+    }
+
+    /// A new table of the current database. The store is unchanged after want of memory.
+    pub(crate) fn add_table(&mut self, table: Table) -> Result<(), Memory>
+        requires current { IsSomeAnd (current_database self.old) (λ d. d.name ≡ table.database) }
+        requires absent { table_named table.database table.name self.old.tables ≡ None }
+        requires names { AllPairs (λ d e. d.name ≢ e.name) self.old.databases }
+        ensures ok { OnOk result (self.new ≡ with_table self.old table) }
+        ensures err { OnErr result (self.new ≡ self.old) }
+    {
+        if let Some(place) = self.current {
+            let last = self.tables.len();
+            self.tables.reserve(1)?;
+            self.entries[place]
+                .tables
+                .insert(self.alloc, table.name.as_slice(), last)?;
+            push_within(&mut self.tables, table);
+        }
+        Ok(())
+    }
+
+    /// Where a table of the current database lives.
+    pub(crate) fn set_locality(&mut self, name: &[u8], locality: Locality)
+        ensures { self.new ≡ option_map_or (λ d. record self.old { tables = changed (is_table d.name name.now) (with_locality locality) self.old.tables }) (current_database self.old) self.old }
+    {
+        if let Some(place) = self.place_of_table(name) {
+            self.tables[place].set_locality(locality);
+        }
+    }
+
+    /// Another region of a database as its primary region.
+    pub(crate) fn set_primary(&mut self, name: &[u8], region: &[u8])
+        ensures { self.new ≡ with_database self.old name.now (with_primary region.now) }
+    {
+        if let Some(place) = self.place_of_database(name) {
+            let database = &mut self.entries[place].database;
+            database.primary = place_of(database.regions.as_slice(), region);
+        }
+    }
+
+    /// The first region of a database. The store is unchanged after want of memory.
+    pub(crate) fn set_first_region(&mut self, name: &[u8], region: &[u8]) -> Result<(), Memory>
+        ensures ok { OnOk result (self.new ≡ with_database self.old name.now (with_first_region region.now)) }
+        ensures err { OnErr result (self.new ≡ self.old) }
+    {
+        if let Some(place) = self.place_of_database(name) {
+            let regions = one_region(self.alloc, region)?;
+            self.entries[place].database.set_first_region(regions);
+        }
+        Ok(())
+    }
+
+    /// Another region of a database. The store is unchanged after want of memory.
+    pub(crate) fn add_region(&mut self, name: &[u8], region: &[u8]) -> Result<(), Memory>
+        ensures ok { OnOk result (self.new ≡ with_database self.old name.now (with_region region.now)) }
+        ensures err { OnErr result (self.new ≡ self.old) }
+    {
+        if let Some(place) = self.place_of_database(name) {
+            let region = Bytes::from_slice(self.alloc, region)?;
+            self.entries[place].database.add_region(region)?;
+        }
+        Ok(())
+    }
+
+    /// A database without a region. The store is unchanged after want of memory.
+    pub(crate) fn drop_region(&mut self, name: &[u8], region: &[u8]) -> Result<(), Memory>
+        ensures ok { OnOk result (self.new ≡ with_database self.old name.now (without_region region.now)) }
+        ensures err { OnErr result (self.new ≡ self.old) }
+    {
+        if let Some(place) = self.place_of_database(name) {
+            let database = &mut self.entries[place].database;
+            let regions = without(self.alloc, region, database.regions.as_slice())?;
+            database.keep_regions(regions);
+        }
+        Ok(())
+    }
+
+    /// What a database is to survive.
+    pub(crate) fn set_goal(&mut self, name: &[u8], goal: Goal)
+        ensures { self.new ≡ with_database self.old name.now (with_goal goal) }
+    {
+        if let Some(place) = self.place_of_database(name) {
+            self.entries[place].database.goal = goal;
+        }
+    }
+
+    /// Whether a database is restricted.
+    pub(crate) fn set_restricted(&mut self, name: &[u8], restricted: bool)
+        ensures { self.new ≡ with_database self.old name.now (with_restricted restricted) }
+    {
+        if let Some(place) = self.place_of_database(name) {
+            self.entries[place].database.restricted = restricted;
+        }
+    }
+
+    /// The tables of a database in its primary region.
+    pub(crate) fn home_tables(&mut self, name: &[u8])
+        ensures { self.new ≡ record self.old { tables = map (homed_in_primary name.now) self.old.tables } }
+    {
+        home_in_primary(&mut self.tables, name);
+    }
+}
+
+/// A region as a list.
+fn one_region(alloc: Global, region: &[u8]) -> Result<ListOf<Bytes>, Memory>
+    ensures { IfOk result (λ regions. regions ≡ region.now ∷ []) }
+{
+    let mut regions = ListOf::new(alloc);
+    regions.push(Bytes::from_slice(alloc, region)?)?;
+    Ok(regions)
+}
+
+/// The tables of a database in its primary region.
+fn home_in_primary(tables: &mut [Table], name: &[u8])
+    ensures { tables.new ≡ map (homed_in_primary name.now) tables.old }
+{
+    for table in tables.iter_mut() {
+        home(table, name);
+    }
+}
+
+/// A table in its database's primary region, if it is of this database.
+fn home(table: &mut Table, name: &[u8])
+    ensures { table.new ≡ homed_in_primary name.now table.old }
+{
+    if name == table.database.as_slice() {
+        table.set_locality(Locality::InPrimary);
+    }
+}
+
+/// Adds an item where there is room.
+fn push_within<T: Drop>(items: &mut Vec<T>, item: T)
+    requires { vec_len items.old < vec_capacity items.old }
+    ensures { items.new.items ≡ items.old.items ++ item ∷ [] }
+{
+    match items.push(item) {
+        Ok(()) => {}
+        Err(_) => unreachable!(),
+    }
+}
