@@ -5,7 +5,8 @@ ghost use Rattle.std.specs.Option.{option_map_or};
 ghost use Rattle.std.specs.Str.{bytes_eq};
 ghost use Rattle.descriptors.specs.Contents.{is_database, is_table, database_named, table_named, current_database};
 ghost use Rattle.descriptors.specs.Lists.{changed};
-ghost use Rattle.descriptors.specs.Changes.{with_table, with_locality, with_database, with_first_region, with_goal, with_primary, with_region, with_restricted, without_region, homed_in_primary};
+ghost use Rattle.descriptors.specs.Refusals.{of_database, has_regions};
+ghost use Rattle.descriptors.specs.Changes.{after, with_table, with_locality, with_database, with_first_region, with_goal, with_primary, with_region, with_restricted, without_region, homed_in_primary};
 
 use crate::database::Database;
 use crate::lists::{place_of, without};
@@ -13,7 +14,7 @@ use crate::names::Names;
 use crate::store::{Entry, Store};
 use crate::table::Table;
 use mr_base::{Bytes, ListOf, Memory};
-use region_sql::{Goal, Locality};
+use region_sql::{Goal, Locality, RegionStatement};
 use std::alloc::Global;
 
 impl Store {
@@ -69,8 +70,32 @@ impl Store {
         }
     }
 
+    /// Whether the database of a name has regions.
+    fn has_regions_in(&self, name: &[u8]) -> bool
+        ensures { result ≡ of_database self.now name.now has_regions }
+    {
+        match self.database(name) {
+            Some(database) => database.has_regions(),
+            None => false,
+        }
+    }
+
+    /// SET PRIMARY REGION. The store is unchanged after want of memory.
+    pub(crate) fn change_primary(&mut self, name: &[u8], region: &[u8]) -> Result<(), Memory>
+        ensures ok { OnOk result (self.new ≡ after self.old (RegionStatement.SetPrimary name.now region.now)) }
+        ensures err { OnErr result (self.new ≡ self.old) }
+    {
+        if self.has_regions_in(name) {
+            self.set_primary(name, region);
+        } else {
+            self.set_first_region(name, region)?;
+            self.home_tables(name);
+        }
+        Ok(())
+    }
+
     /// Another region of a database as its primary region.
-    pub(crate) fn set_primary(&mut self, name: &[u8], region: &[u8])
+    fn set_primary(&mut self, name: &[u8], region: &[u8])
         ensures { self.new ≡ with_database self.old name.now (with_primary region.now) }
     {
         if let Some(place) = self.place_of_database(name) {
@@ -80,7 +105,7 @@ impl Store {
     }
 
     /// The first region of a database. The store is unchanged after want of memory.
-    pub(crate) fn set_first_region(&mut self, name: &[u8], region: &[u8]) -> Result<(), Memory>
+    fn set_first_region(&mut self, name: &[u8], region: &[u8]) -> Result<(), Memory>
         ensures ok { OnOk result (self.new ≡ with_database self.old name.now (with_first_region region.now)) }
         ensures err { OnErr result (self.new ≡ self.old) }
     {
@@ -135,7 +160,7 @@ impl Store {
     }
 
     /// The tables of a database in its primary region.
-    pub(crate) fn home_tables(&mut self, name: &[u8])
+    fn home_tables(&mut self, name: &[u8])
         ensures { self.new ≡ record self.old { tables = map (homed_in_primary name.now) self.old.tables } }
     {
         home_in_primary(&mut self.tables, name);

@@ -6,6 +6,7 @@ mod checks;
 mod columns;
 mod database;
 mod lists;
+mod made;
 mod names;
 mod refusals;
 mod rules;

@@ -1,6 +1,6 @@
 //! Lists of names.
 
-ghost use Rattle.std.specs.Prelude.{◌≡◌, IfOk, position};
+ghost use Rattle.std.specs.Prelude.{◌≡◌, ◌++◌, IfOk, OnOk, position};
 ghost use Rattle.std.specs.Str.{bytes_eq};
 ghost use Rattle.descriptors.specs.Lists.{has_name, has_twice, without};
 
@@ -38,10 +38,23 @@ pub(crate) fn without(alloc: Global, name: &[u8], names: &[Bytes]) -> Result<Lis
     ensures { IfOk result (λ others. others ≡ without name.now names.now) }
 {
     let mut others = ListOf::new(alloc);
+    push_without(alloc, &mut others, name, names)?;
+    Ok(others)
+}
+
+/// Copies of the other names at the end of a list.
+pub(crate) fn push_without(
+    alloc: Global,
+    list: &mut ListOf<Bytes>,
+    name: &[u8],
+    names: &[Bytes],
+) -> Result<(), Memory>
+    ensures { OnOk result (list.new ≡ list.old ++ without name.now names.now) }
+{
     for n in names {
         if name != n.as_slice() {
-            others.push(n.clone_in(alloc)?)?;
+            list.push(n.clone_in(alloc)?)?;
         }
     }
-    Ok(others)
+    Ok(())
 }
