@@ -36,10 +36,11 @@ placed-push : {X : Type 0} (test : X → Bool) (name : X → List ℕ) (k : ℕ)
 placed-push test name k [] y = ap (λ n. placed test name n (y ∷ [])) (sym (add-zero k))
 placed-push test name k (x ∷ xs) y =
     let rest : placed test name (k + 1) (xs ++ y ∷ []) ≡ placed test name (k + 1) xs ++ placed test name (k + length (x ∷ xs)) (y ∷ []) =
-          placed-push test name (k + 1) xs y ∙ ap (λ n. placed test name (k + 1) xs ++ placed test name n (y ∷ [])) (omega arith) in
+    placed-push test name (k + 1) xs y ∙ ap (λ n. placed test name (k + 1) xs ++ placed test name n (y ∷ [])) (omega arith) in
     elim (test x) as (λ b. cond b ((name x, k) ∷ placed test name (k + 1) (xs ++ y ∷ [])) (placed test name (k + 1) (xs ++ y ∷ [])) ≡ cond b ((name x, k) ∷ placed test name (k + 1) xs) (placed test name (k + 1) xs) ++ placed test name (k + length (x ∷ xs)) (y ∷ [])) [
-      true ↦ ap (λ l. (name x, k) ∷ l) rest
-    | false ↦ rest ]
+      | true ↦ ap (λ l. (name x, k) ∷ l) rest
+      | false ↦ rest
+    ]
 
 pub placed_passing : {X : Type 0} (test : X → Bool) (name : X → List ℕ) (xs : List X) (y : X) → test y ≡ true → placed test name 0 (xs ++ y ∷ []) ≡ placed test name 0 xs ++ (name y, length xs) ∷ []
 placed_passing test name xs y h =
@@ -74,7 +75,7 @@ pub added_database : (ps new : List (List ℕ × ℕ)) (es : List Entry) (ts : L
 added_database ps new es ts e i n empty alone = record {
   databases = n ∙ ap (λ l. l ++ (e.database.name, length es) ∷ []) i.databases ∙ sym (placed_passing (λ _. true) (λ x. x.database.name) es e refl);
   each = All-push (λ x. x.tables ≡ placed (λ t. bytes_eq x.database.name t.database) (λ t. t.name) 0 ts) es e i.each
-    (empty ∙ sym (placed_none (λ t. bytes_eq e.database.name t.database) (λ t. t.name) 0 ts alone))
+      (empty ∙ sym (placed_none (λ t. bytes_eq e.database.name t.database) (λ t. t.name) 0 ts alone));
 }
 
 -- The names of the databases at two places differ.
@@ -83,6 +84,7 @@ apart es i j d e distinct differ li lj = by (cases_order i j)
   where
     at : (k : ℕ) (x : Entry) (y : Database) → k < length es → get_or (map (λ (x : Entry). x.database) es) k y ≡ (get_or es k x).database
     at k x y lt = get_or-map (λ (x : Entry). x.database) es k x y lt
+
     by : (i ≡ j) ⊎ ((i < j) ⊎ (j < i)) → (get_or es i d).database.name ≢ (get_or es j e).database.name
     by (inl same) = absurd (differ same)
     by (inr (inl lt)) = λ h. distinct i j d.database lt (subst (λ n. j < n) (sym (length-map es (λ (x : Entry). x.database))) lj) (ap (λ (x : Database). x.name) (at i d d.database li) ∙ h ∙ sym (ap (λ (x : Database). x.name) (at j e d.database lj)))
@@ -95,7 +97,7 @@ HasPlaces ts x = x.tables ≡ placed (λ y. bytes_eq x.database.name y.database)
 pub added_table : (ps : List (List ℕ × ℕ)) (es : List Entry) (ts : List Table) (k : ℕ) (e new : Entry) (t : Table) → IsIndexed ps es ts → e ≡ get_or es k e → k < length es → AllPairs (λ a b. a.name ≢ b.name) (map (λ (x : Entry). x.database) es) → t.database ≡ e.database.name → new.database ≡ e.database → new.tables ≡ e.tables ++ (t.name, length ts) ∷ [] → IsIndexed ps (set es k new) (ts ++ t ∷ [])
 added_table ps es ts k e new t i at lt distinct home d n = record {
   databases = i.databases ∙ sym (placed-set (λ _. true) (λ x. x.database.name) 0 es k new e refl (ap (λ (x : Database). x.name) d ∙ ap (λ (x : Entry). x.database.name) at));
-  each = λ j x lj. by j x lj (cases_eq j k)
+  each = λ j x lj. by j x lj (cases_eq j k);
 }
   where
     own : HasPlaces (ts ++ t ∷ []) new
@@ -103,8 +105,10 @@ added_table ps es ts k e new t i at lt distinct home d n = record {
         n ∙ ap (λ l. l ++ (t.name, length ts) ∷ []) (subst (λ (x : Entry). x.tables ≡ placed (λ y. bytes_eq x.database.name y.database) (λ y. y.name) 0 ts) (sym at) (i.each k e lt))
         ∙ sym (placed_passing (λ y. bytes_eq e.database.name y.database) (λ y. y.name) ts t (bytes_same e.database.name t.database (sym home)))
         ∙ ap (λ (x : Database). placed (λ (y : Table). bytes_eq x.name y.database) (λ y. y.name) 0 (ts ++ t ∷ [])) (sym d)
+
     other : (x : Entry) → x.tables ≡ placed (λ y. bytes_eq x.database.name y.database) (λ y. y.name) 0 ts → x.database.name ≢ t.database → HasPlaces (ts ++ t ∷ []) x
     other x h differ = h ∙ sym (placed_failing (λ y. bytes_eq x.database.name y.database) (λ y. y.name) ts t (bytes_differ x.database.name t.database differ))
+
     by : (j : ℕ) (x : Entry) → j < length (set es k new) → (j ≡ k) ⊎ (j ≡ k → ⊥) → HasPlaces (ts ++ t ∷ []) (get_or (set es k new) j x)
     by j x lj (inl same) = subst (HasPlaces (ts ++ t ∷ [])) (sym (ap (λ m. get_or (set es k new) m x) same ∙ get_or-set_same es k new x lt)) own
     by j x lj (inr differ) =

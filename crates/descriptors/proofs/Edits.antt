@@ -43,8 +43,8 @@ pub edited_index : (ps : List (List ℕ × ℕ)) (es : List Entry) (ts : List Ta
 edited_index ps es ts k e new i at lt n t = record {
   databases = i.databases ∙ sym (placed-set (λ _. true) (λ x. x.database.name) 0 es k new e refl (n ∙ ap (λ (x : Entry). x.database.name) at));
   each = All-set (λ x. x.tables ≡ placed (λ t. bytes_eq x.database.name t.database) (λ t. t.name) 0 ts) es k new
-    (t ∙ subst (λ (x : Entry). x.tables ≡ placed (λ t. bytes_eq x.database.name t.database) (λ t. t.name) 0 ts) (sym at) (i.each k e lt)
-      ∙ ap (λ m. placed (λ (t : Table). bytes_eq m t.database) (λ t. t.name) 0 ts) (sym n)) i.each
+      (t ∙ subst (λ (x : Entry). x.tables ≡ placed (λ t. bytes_eq x.database.name t.database) (λ t. t.name) 0 ts) (sym at) (i.each k e lt)
+      ∙ ap (λ m. placed (λ (t : Table). bytes_eq m t.database) (λ t. t.name) 0 ts) (sym n)) i.each;
 }
 
 -- The database of a name changed in its place.

@@ -22,8 +22,9 @@ lookup-placed_from : {X : Type 0} (test : X → Bool) (name : X → List ℕ) (n
 lookup-placed_from test name n k [] = refl
 lookup-placed_from {X} test name n k (x ∷ xs) =
     elim (test x) as (λ b. lookup (bytes_eq n) (cond b ((name x, k) ∷ placed test name (k + 1) xs) (placed test name (k + 1) xs)) ≡ cond (b && bytes_eq n (name x)) (Some k) (position_from (λ y. test y && bytes_eq n (name y)) (k + 1) xs)) [
-      true ↦ ap (λ r. cond (bytes_eq n (name x)) (Some k) r) (lookup-placed_from test name n (k + 1) xs)
-    | false ↦ lookup-placed_from test name n (k + 1) xs ]
+      | true ↦ ap (λ r. cond (bytes_eq n (name x)) (Some k) r) (lookup-placed_from test name n (k + 1) xs)
+      | false ↦ lookup-placed_from test name n (k + 1) xs
+    ]
 
 pub lookup-placed : {X : Type 0} (test : X → Bool) (name : X → List ℕ) (n : List ℕ) (xs : List X) → lookup (bytes_eq n) (placed test name 0 xs) ≡ position (λ x. test x && bytes_eq n (name x)) xs
 lookup-placed test name n xs = lookup-placed_from test name n 0 xs ∙ sym (position_from-zero (λ x. test x && bytes_eq n (name x)) xs)
@@ -94,7 +95,7 @@ pub reindexed : (ps : List (List ℕ × ℕ)) (es : List Entry) (ts new : List T
 reindexed ps es ts new i h = record {
   databases = i.databases;
   each = All-weaker (λ e. e.tables ≡ placed (λ t. bytes_eq e.database.name t.database) (λ t. t.name) 0 ts) (λ e. e.tables ≡ placed (λ t. bytes_eq e.database.name t.database) (λ t. t.name) 0 new)
-    (λ e q. q ∙ placed-keys e.database.name 0 ts ∙ ap (placed (λ p. bytes_eq e.database.name p.0) (λ p. p.1) 0) (sym h) ∙ sym (placed-keys e.database.name 0 new)) es i.each
+      (λ e q. q ∙ placed-keys e.database.name 0 ts ∙ ap (placed (λ p. bytes_eq e.database.name p.0) (λ p. p.1) 0) (sym h) ∙ sym (placed-keys e.database.name 0 new)) es i.each;
 }
 
 homed-key : (name : List ℕ) (t : Table) → table_key (homed_in_primary name t) ≡ table_key t

@@ -25,7 +25,7 @@ database_made name primary regions goal = record {
   regions = regions_made primary regions;
   primary = option_map (λ _. 0) primary;
   goal = unwrap_or goal goals.Zone;
-  restricted = false
+  restricted = false;
 }
 
 -- The first region of a database.
@@ -43,7 +43,7 @@ with_region region d = record d { regions = d.regions ++ region ∷ [] }
 abbrev pub without_region : List ℕ → Database → Database
 without_region region d = record d {
   regions = without region d.regions;
-  primary = option_and_then (λ primary. position (bytes_eq primary) (without region d.regions)) (primary_region d)
+  primary = option_and_then (λ primary. position (bytes_eq primary) (without region d.regions)) (primary_region d);
 }
 
 abbrev pub with_goal : Goal → Database → Database
@@ -63,7 +63,7 @@ table_made d name items locality = record {
   columns = columns_of items;
   key = places_of (columns_of items) (key_names items);
   unique = unique_from 0 items;
-  locality = locality_made d locality
+  locality = locality_made d locality;
 }
 
 abbrev pub with_locality : Locality → Table → Table

@@ -158,9 +158,9 @@ abbrev pub first_of : List (Bool × CatalogRefusal) → Option CatalogRefusal
 first_of [] = None
 first_of (row ∷ rows) = if row.0 then Some row.1 else first_of rows
 
--- Why a statement is refused: the first row that applies.
-abbrev pub refusal_of : Contents → RegionStatement → Option CatalogRefusal
-refusal_of c s = first_of (
+-- The table of refusals, first things first.
+abbrev pub rows_of : Contents → RegionStatement → List (Bool × CatalogRefusal)
+rows_of c s =
     (lacks_database c s, State S3D000)
     ∷ (makes_database_again c s, State S42P04)
     ∷ (makes_table_again c s, State S42P07)
@@ -175,4 +175,8 @@ refusal_of c s = first_of (
     ∷ (makes_no_table c s, D 8)
     ∷ (drops_home c s, D 9)
     ∷ (restricts_survival c s, D 11)
-    ∷ [])
+    ∷ []
+
+-- Why a statement is refused, if it is.
+abbrev pub refusal_of : Contents → RegionStatement → Option CatalogRefusal
+refusal_of c s = first_of (rows_of c s)

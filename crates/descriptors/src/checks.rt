@@ -1,6 +1,6 @@
 //! Which refusal a statement meets, the first of the table.
 
-ghost use Rattle.std.specs.Prelude.{◌≡◌, ◌⊎◌, ◌||◌, IfErr, IfOk, None, OnOk, Some, length, nat_le};
+ghost use Rattle.std.specs.Prelude.{◌≡◌, ◌||◌, IfOk, length, nat_le};
 ghost use Rattle.descriptors.specs.Columns.{make_no_table};
 ghost use Rattle.descriptors.specs.Refusals.{refusal_of};
 
@@ -15,6 +15,50 @@ use mr_base::{Bytes, Memory, SqlState};
 use region_sql::{Goal, Item, Locality, RegionStatement};
 
 impl Store {
+    /// Why a statement is refused, if it is. Source: this project's profile.
+    pub(crate) fn refusal(&self, s: &RegionStatement) -> Result<Option<CatalogRefusal>, Memory>
+        ensures { IfOk result (λ refusal. refusal ≡ refusal_of self.now s.now) }
+    {
+        match s {
+            RegionStatement::CreateDatabase {
+                name,
+                primary,
+                regions,
+                goal,
+            } => Ok(self.refusal_of_create_database(
+                name.as_slice(),
+                primary,
+                regions.as_slice(),
+                *goal,
+            )),
+            RegionStatement::Use { name } => Ok(self.refusal_of_use(name.as_slice())),
+            RegionStatement::SetPrimary { database, region } => {
+                Ok(self.refusal_of_set_primary(database.as_slice(), region.as_slice()))
+            }
+            RegionStatement::AddRegion { database, region } => {
+                Ok(self.refusal_of_add_region(database.as_slice(), region.as_slice()))
+            }
+            RegionStatement::DropRegion { database, region } => {
+                Ok(self.refusal_of_drop_region(database.as_slice(), region.as_slice()))
+            }
+            RegionStatement::Survive { database, goal } => {
+                Ok(self.refusal_of_survive(database.as_slice(), *goal))
+            }
+            RegionStatement::Placement {
+                database,
+                restricted,
+            } => Ok(self.refusal_of_placement(database.as_slice(), *restricted)),
+            RegionStatement::CreateTable {
+                name,
+                items,
+                locality,
+            } => self.refusal_of_create_table(name.as_slice(), items.as_slice(), locality),
+            RegionStatement::SetLocality { table, locality } => {
+                Ok(self.refusal_of_set_locality(table.as_slice(), locality))
+            }
+        }
+    }
+
     /// CREATE DATABASE
     fn refusal_of_create_database(
         &self,
@@ -116,10 +160,7 @@ impl Store {
                     (!database.has_regions(), CatalogRefusal::D(4)),
                     (survives_region(database.goal) && few, CatalogRefusal::D(5)),
                     (database.is_primary(region), CatalogRefusal::D(6)),
-                    (
-                        has_home(&self.tables, name, region),
-                        CatalogRefusal::D(9),
-                    ),
+                    (has_home(&self.tables, name, region), CatalogRefusal::D(9)),
                 ])
             }
             None => Some(CatalogRefusal::State(SqlState::S3D000)),

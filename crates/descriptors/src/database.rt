@@ -5,8 +5,9 @@ ghost use Rattle.std.specs.Option.{option_copied};
 ghost use Rattle.std.specs.Str.{bytes_eq};
 
 use crate::lists::place_of;
-use mr_base::{Bytes, ListOf, Memory};
+use mr_base::{Bytes, CloneIn, ListOf, Memory};
 use region_sql::Goal;
+use std::alloc::Global;
 
 /// A database. Its regions stand in catalog order: the primary region as first named, then the others
 /// as listed or added; `primary` is a place among them. `restricted` databases place their ordinary
@@ -68,5 +69,17 @@ impl Database {
             Some(place) => self.regions.as_slice().get(place),
             None => None,
         }
+    }
+}
+
+impl CloneIn for Database {
+    fn clone_in(&self, alloc: Global) -> Result<Database, Memory> {
+        Ok(Database {
+            name: self.name.clone_in(alloc)?,
+            regions: self.regions.clone_in(alloc)?,
+            primary: self.primary,
+            goal: self.goal,
+            restricted: self.restricted,
+        })
     }
 }

@@ -1,6 +1,7 @@
 //! Databases and tables, as the catalog keeps them.
 #![tactic(auto)]
 
+mod catalog;
 mod changes;
 mod checks;
 mod columns;
@@ -13,7 +14,7 @@ mod rules;
 mod store;
 mod table;
 
+pub use catalog::Catalog;
 pub use database::Database;
-pub use names::Names;
 pub use refusals::CatalogRefusal;
 pub use table::Table;

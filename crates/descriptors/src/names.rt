@@ -12,7 +12,7 @@ use std::marker::Model;
 /// The places of named things, found by name without a walk over them. The names stand in the order in
 /// which they were inserted.
 #[derive(Drop)]
-pub struct Names {
+pub(crate) struct Names {
     places: IndexMap<Vec<u8>, usize>,
 }
 
@@ -26,7 +26,7 @@ impl Model for Names {
 
 impl Names {
     /// No names.
-    pub fn new(alloc: Global) -> Names
+    pub(crate) fn new(alloc: Global) -> Names
         ensures { result ≡ [] }
     {
         Names {
@@ -35,14 +35,14 @@ impl Names {
     }
 
     /// The place of a name.
-    pub fn place(&self, name: &[u8]) -> Option<usize>
+    pub(crate) fn place(&self, name: &[u8]) -> Option<usize>
         ensures { result ≡ lookup (bytes_eq name.now) self.now }
     {
         self.places.get(name).copied()
     }
 
     /// Adds a name that isn't there. They are unchanged after want of memory.
-    pub fn insert(&mut self, alloc: Global, name: &[u8], place: usize) -> Result<(), Memory>
+    pub(crate) fn insert(&mut self, alloc: Global, name: &[u8], place: usize) -> Result<(), Memory>
         requires absent { lookup (bytes_eq name.now) self.old ≡ None }
         ensures ok { OnOk result (self.new ≡ self.old ++ (name.now, place) ∷ []) }
         ensures err { OnErr result (self.new ≡ self.old) }

@@ -112,9 +112,7 @@ fn lives_in(region: &[u8], locality: &Option<Locality>) -> bool
 pub(crate) fn has_home(tables: &[Table], name: &[u8], region: &[u8]) -> bool
     ensures { result ≡ list_any (λ t. bytes_eq name.now t.database && lives_in region.now t.locality) tables.now }
 {
-    tables
-        .iter()
-        .any(|t| name == t.database.as_slice() && lives_in(region, &t.locality))
+    tables.iter().any(|t| name == t.database.as_slice() && lives_in(region, &t.locality))
 }
 
 impl Database {

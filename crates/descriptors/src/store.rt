@@ -7,7 +7,7 @@ ghost use Rattle.descriptors.specs.Contents.{is_database, is_table, database_nam
 use crate::database::Database;
 use crate::names::Names;
 use crate::table::Table;
-use mr_base::{Bytes, ListOf};
+use mr_base::{Bytes, CloneIn, ListOf, Memory};
 use std::alloc::Global;
 use std::marker::Model;
 
@@ -104,6 +104,13 @@ impl Store {
         self.tables.get(place)
     }
 
+    /// The tables of all databases.
+    pub(crate) fn tables(&self) -> &[Table]
+        ensures { result.now ≡ self.now.tables }
+    {
+        self.tables.as_slice()
+    }
+
     /// The place of a table in the current database.
     pub(crate) fn place_of_table(&self, name: &[u8]) -> Option<usize>
         ensures { result ≡ option_and_then (λ d. position (is_table d.name name.now) self.now.tables) (current_database self.now) }
@@ -133,4 +140,30 @@ fn entry_at(entries: &[Entry], place: usize) -> Option<&Entry>
     ensures { option_copied result ≡ slice_get entries.now place }
 {
     entries.get(place)
+}
+
+impl CloneIn for Entry {
+    fn clone_in(&self, alloc: Global) -> Result<Entry, Memory> {
+        Ok(Entry {
+            database: self.database.clone_in(alloc)?,
+            tables: self.tables.clone_in(alloc)?,
+        })
+    }
+}
+
+impl CloneIn for Store {
+    fn clone_in(&self, alloc: Global) -> Result<Store, Memory> {
+        let regions = self.regions.clone_in(alloc)?;
+        let entries = ListOf::copy_of(alloc, &self.entries)?;
+        let tables = ListOf::copy_of(alloc, &self.tables)?;
+        let places = self.places.clone_in(alloc)?;
+        Ok(Store {
+            alloc,
+            regions,
+            entries: entries.into_vec(),
+            tables: tables.into_vec(),
+            current: self.current,
+            places,
+        })
+    }
 }

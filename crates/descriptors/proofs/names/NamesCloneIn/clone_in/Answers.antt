@@ -6,5 +6,5 @@ use Rattle.descriptors.proofs.names.NamesCloneIn.clone_in.Goals as goal
 
 pub returns : goal.returns
 returns c = record {
-  copy = clones_as_seen (λ k. k.items) (λ x y. AllZip (λ a b. b ≡ a) x.items y.items × (vec_len y ≡ vec_len x)) (λ x y h. same_from_all_zip (λ a b. b ≡ a) x.items y.items h.0 (λ a b e. e)) c.self.inside.places.entries c.in_ok-places.places.entries c.in_ok-places.ensures.cases ∙ c.self.view_is
+  copy = clones_as_seen (λ k. k.items) (λ x y. AllZip (λ a b. b ≡ a) x.items y.items × (vec_len y ≡ vec_len x)) (λ x y h. same_from_all_zip (λ a b. b ≡ a) x.items y.items h.0 (λ a b e. e)) c.self.inside.places.entries c.in_ok-places.places.entries c.in_ok-places.ensures.cases ∙ c.self.view_is;
 }

@@ -17,7 +17,7 @@ returns-in_ok-add_region-clause-ok c =
     let lt = entry_within c.self.inside.regions c.self.inside.entries.items c.self.inside.tables.items c.self.inside.current c.args.self.now c.in-Some.place c.self.view_is c.in-Some.ensures.within in
     let d : Database = c.index_mut.result.now.database in
     edited_view c.self.inside.regions c.self.inside.entries.items c.self.inside.tables.items c.self.inside.current c.args.self.now c.args.name.now (with_region c.args.region.now) c.in-Some.place c.index_mut.result.now _ c.self.view_is c.in-Some.ensures.place c.index_mut.ensures.value lt
-        (c.in_ok-add_region.ensures.ok ∙ ap (λ r. with_region r d) c.in_ok-region.ensures)
+    (c.in_ok-add_region.ensures.ok ∙ ap (λ r. with_region r d) c.in_ok-region.ensures)
 
 pub returns-in_default-clause-ok : goal.returns-in_default-clause-ok
 returns-in_default-clause-ok c = unedited c.args.self.now c.args.name.now (with_region c.args.region.now) c.place_of_database.result c.place_of_database.ensures.place c.in_default.not-Some

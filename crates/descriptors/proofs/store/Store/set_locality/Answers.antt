@@ -16,8 +16,8 @@ pub returns-in-Some : goal.returns-in-Some
 returns-in-Some c =
     let s : Contents = record { regions = c.self.inside.regions; databases = map (λ (e : Entry). e.database) c.self.inside.entries.items; tables = c.self.inside.tables.items; current = c.self.inside.current } in
     relocated s c.args.name.now (with_locality c.args.locality) (current_database s) c.in-Some.place c.index_mut.result.now c.set_locality.new.self
-        (c.in-Some.ensures ∙ sym (ap (λ (x : Contents). option_and_then (λ (d : Database). position (is_table d.name c.args.name.now) x.tables) (current_database x)) c.self.view_is))
-        c.index_mut.ensures.value c.set_locality.ensures
+    (c.in-Some.ensures ∙ sym (ap (λ (x : Contents). option_and_then (λ (d : Database). position (is_table d.name c.args.name.now) x.tables) (current_database x)) c.self.view_is))
+    c.index_mut.ensures.value c.set_locality.ensures
     ∙ ap (λ (x : Contents). option_map_or (λ (d : Database). record x { tables = changed (is_table d.name c.args.name.now) (with_locality c.args.locality) x.tables }) (current_database x) x) c.self.view_is
 
 pub returns-in_default : goal.returns-in_default
