@@ -1,1 +1,7 @@
+pub mod Changes
+pub mod Columns
+pub mod Contents
+pub mod Index
+pub mod Lists
+pub mod Refusals
 pub mod Sound

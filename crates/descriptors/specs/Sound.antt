@@ -1,9 +1,11 @@
-use Rattle.std.specs.Prelude.{◌≡◌, ◌≢◌, ℕ, ◌<◌, ◌≤◌, ⊤, List, [], length, map, All, AllPairs, Any, IsUtf8, Option, Some, None, Bool, true, codes}
+use Rattle.std.specs.Prelude.{◌≡◌, ◌≢◌, ℕ, ◌<◌, ◌≤◌, ⊤, List, [], length, map, All, AllPairs, Any, IsUtf8, Option, Some, None, Bool, true, IsTrue, codes}
 use Rattle.region_sql.specs.declared.region_statements.Goal.TheVariants as goals
 use Rattle.region_sql.specs.declared.region_statements.Locality.{Locality}
 use Rattle.region_sql.specs.declared.region_statements.Locality.TheVariants as localities
 use Rattle.descriptors.specs.declared.database.Database.{Database}
 use Rattle.descriptors.specs.declared.table.Table.{Table}
+use Rattle.descriptors.specs.Contents.{Contents, database_named}
+use Rattle.descriptors.specs.Lists.{has_name}
 
 -- No two of these are equal.
 abbrev pub AreDistinct : {A : Type 0} → List A → Type 0
@@ -51,3 +53,21 @@ pub record IsSoundIn (d : Database) (t : Table) : Type 0 where
   pub table : IsSoundTable t
   pub database : t.database ≡ d.name
   pub locality : FitsRegions d.regions t.locality
+
+-- The regions of a cluster.
+pub record IsCluster (regions : List (List ℕ)) : Type 0 where
+  pub few : length regions ≤ 16
+  pub distinct : AreDistinct regions
+  pub names : All IsUtf8 regions
+
+-- A table as the catalog keeps it among these databases: its database is there, and it is sound in it.
+abbrev pub IsSoundAmong : List Database → Table → Type 0
+IsSoundAmong databases t = (d : Database) × (database_named t.database databases ≡ Some d) × IsSoundIn d t
+
+-- What every catalog is.
+pub record IsSoundCatalog (c : Contents) : Type 0 where
+  pub cluster : IsCluster c.regions
+  pub databases : All IsSoundDatabase c.databases
+  pub in_cluster : All (λ d. All (λ r. IsTrue (has_name c.regions r)) d.regions) c.databases
+  pub names : AllPairs (λ d e. d.name ≢ e.name) c.databases
+  pub tables : All (IsSoundAmong c.databases) c.tables

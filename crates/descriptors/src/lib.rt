@@ -1,8 +1,20 @@
 //! Databases and tables, as the catalog keeps them.
 #![tactic(auto)]
 
+mod catalog;
+mod changes;
+mod checks;
+mod columns;
 mod database;
+mod lists;
+mod made;
+mod names;
+mod refusals;
+mod rules;
+mod store;
 mod table;
 
+pub use catalog::Catalog;
 pub use database::Database;
+pub use refusals::CatalogRefusal;
 pub use table::Table;

@@ -1,7 +1,8 @@
 //! Statements on databases, regions and tables. Source: CockroachDB's documentation of multi-region
 //! SQL, in this project's profile.
 
-use mr_base::{Bytes, ListOf};
+use mr_base::{Bytes, CloneIn, ListOf, Memory};
+use std::alloc::Global;
 
 /// What a database is to survive.
 #[derive(Clone, Copy, Debug, PartialEq, Eq)]
@@ -107,4 +108,23 @@ pub enum RegionStatement {
         table: Bytes,
         locality: Locality,
     },
+}
+
+impl CloneIn for Locality {
+    fn clone_in(&self, alloc: Global) -> Result<Locality, Memory> {
+        match self {
+            Locality::InPrimary => Ok(Locality::InPrimary),
+            Locality::InRegion { region } => Ok(Locality::InRegion {
+                region: region.clone_in(alloc)?,
+            }),
+            Locality::ByRow => Ok(Locality::ByRow),
+            Locality::Global => Ok(Locality::Global),
+        }
+    }
+}
+
+impl CloneIn for ColumnType {
+    fn clone_in(&self, _alloc: Global) -> Result<ColumnType, Memory> {
+        Ok(*self)
+    }
 }

@@ -1,0 +1,10 @@
+mod Additions
+mod Creations
+mod Edits
+mod Found
+mod Index
+mod Kept
+mod Lookups
+mod Regions
+mod SoundTables
+mod Steps
