@@ -1,9 +1,9 @@
 //! Region statements, row statements and their values.
 #![tactic(auto)]
 
-mod first_forms;
 mod byte_classes;
 mod databases;
+mod first_forms;
 mod lexer;
 mod lexing;
 mod listing;
