@@ -1,4 +1,4 @@
-use Rattle.std.proofs.Common.{◌≡◌, ℕ, Bool, true, false, cond, List, [], ◌∷◌, ◌++◌, inl, inr, sym, refl, ap, ◌∙◌, subst, arith, ◌<◌, ◌≤◌, ◌+◌, ◌^◌, ltb}
+use Rattle.std.proofs.Common.{◌≡◌, ◌≢◌, ℕ, Bool, true, false, cond, List, [], ◌∷◌, ◌++◌, inl, inr, sym, refl, ap, ◌∙◌, subst, arith, ◌<◌, ◌≤◌, ◌+◌, ◌^◌, ltb}
 use Rattle.std.specs.List.{AllByRecursion}
 use Rattle.mr_base.specs.declared.messages.Fate.TheVariants as fates
 use Rattle.std.specs.Prelude.{All, reverse, ◌⊎◌, nat_lt}
@@ -26,10 +26,22 @@ use Rattle.sim_cluster.specs.declared.transaction.Begun.{Begun}
 use Rattle.sim_cluster.proofs.MadeLemmas.{made_names, made_behind, behind_next}
 
 -- a cluster with more entries goes on from what it was
-pub continues : (s : Settings) (physical : ℕ) (P : TxnId → Type 0) (old steps new : List JournalEntry) → new ≡ old ++ steps → NamesOnly P (reverse steps)
+pub continues : (s : Settings) (physical : ℕ) (P : TxnId → Type 0) (old steps new : List JournalEntry) → new ≡ old ++ steps → reverse steps ≢ [] → NamesOnly P (reverse steps)
     → Continues (record { settings = s; physical = physical; journal = reverse old }) P (record { settings = s; physical = physical; journal = reverse new })
-continues s physical P old steps new e names =
-    record { settings = refl; physical = refl; fresh = reverse steps; journal = ap reverse e ∙ reverse-append old steps; names = names }
+continues s physical P old steps new e some names =
+    record { settings = refl; physical = refl; fresh = reverse steps; some = some; journal = ap reverse e ∙ reverse-append old steps; names = names }
+
+not_empty : (xs : List JournalEntry) (y : JournalEntry) → xs ++ y ∷ [] ≢ []
+not_empty [] y e = cc
+not_empty (x ∷ xs) y e = cc
+
+-- the first entry of a line's steps is that of the line itself
+pub some_steps : (x : JournalEntry) (rest steps : List JournalEntry) → steps ≡ x ∷ rest → reverse steps ≢ []
+some_steps x rest steps e h = not_empty (reverse rest) x (sym (reverse-append (x ∷ []) rest) ∙ ap reverse (sym e) ∙ h)
+
+pub made_some : (line : ℕ) (b : Begun) (s : FirstStatement) (length : ℕ) (steps : List JournalEntry) → AreSteps line b s length steps → reverse steps ≢ []
+made_some line b s length steps (inl e) = some_steps _ _ steps e
+made_some line b s length steps (inr (rest, served, e)) = some_steps _ _ steps e
 
 pub begin_names : (line expiration : ℕ) (P : TxnId → Type 0) (steps : List JournalEntry) → steps ≡ entry.Event line ∷ append_step 1 (log.Lease (first_lease expiration)) ∷ [] → NamesOnly P (reverse steps)
 begin_names line expiration P steps e =

@@ -23,6 +23,7 @@ pub record Continues (old : View) (P : TxnId → Type 0) (new : View) : Type 0 w
   pub settings : new.settings ≡ old.settings
   pub physical : new.physical ≡ old.physical
   pub fresh : List JournalEntry
+  pub some : fresh ≢ []
   pub journal : new.journal ≡ fresh ++ old.journal
   pub names : NamesOnly P fresh
 

@@ -2,7 +2,7 @@ use Rattle.std.proofs.Common.{◌≡◌, ◌∙◌, ap, rules, arith}
 use Rattle.mr_base.specs.Timestamps.{of_reading}
 use Rattle.mr_base.specs.declared.ids.TxnId.{TxnId}
 use Rattle.mr_base.specs.declared.timestamps.Reading.{Reading}
-use Rattle.sim_cluster.proofs.Keeps.{transaction_sound, continues}
+use Rattle.sim_cluster.proofs.Keeps.{transaction_sound, made_some, continues}
 use Rattle.sim_cluster.proofs.MadeLemmas.{made_names}
 use Rattle.sim_cluster.proofs.cluster.Cluster.transaction.Goals as goal
 
@@ -17,4 +17,4 @@ invariant_of-self-2 c =
 pub returns-clause-ok : goal.returns-clause-ok
 returns-clause-ok c =
     rw (← c.self.view_is) (continues c.self.inside.settings c.self.inside.clock.physical (λ (t : TxnId). t ≡ c.args.txn) c.self.inside.journal.items c.in_ok-steps.steps.items c.append.new.self.items
-        c.in_ok-append.ensures.items (made_names _ _ _ _ _ c.in_ok-steps.ensures.1))
+        c.in_ok-append.ensures.items (made_some _ _ _ _ _ c.in_ok-steps.ensures.1) (made_names _ _ _ _ _ c.in_ok-steps.ensures.1))
