@@ -1,2 +1,4 @@
+pub mod MoreNames
 pub mod Names
+pub mod NamesOnly
 pub mod NoLine

@@ -1,5 +1,5 @@
 use Rattle.std.proofs.Common.{◌≡◌, ℕ, List, [], ◌∷◌, ◌++◌, refl, arith, sym, subst, ◌∙◌}
-use Rattle.std.specs.Prelude.{◌↔◌, Bool, false, IsTrue, All, Contains, codes}
+use Rattle.std.specs.Prelude.{◌↔◌, Bool, false, IsTrue, Contains, codes}
 use Rattle.std.proofs.lemmas.Bool.{false≢true}
 use Rattle.std.proofs.lemmas.List.Elements.{All-contains, Contains-append_right}
 use Rattle.scenario.specs.Lines.{IsNameByte, IsTxnName, IsTxnLine}

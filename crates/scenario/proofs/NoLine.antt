@@ -1,12 +1,11 @@
-use Rattle.std.proofs.Common.{◌≡◌, ℕ, List, ◌++◌, ◌∷◌, inl, inr, sym, ◌∙◌, subst, Bool, true, false}
-use Rattle.std.specs.Prelude.{◌⊎◌, ◌||◌, not, ◌↔◌, IsTrue, Contains}
-use Rattle.scenario.specs.Lines.{HasNoLine, Reads, IsSkipped, IsNodeLine, IsTxnLine, IsTaken}
+use Rattle.std.proofs.Common.{◌≡◌, ℕ, List, inl, inr, sym, subst}
+use Rattle.std.specs.Prelude.{Contains}
+use Rattle.scenario.specs.Lines.{HasNoLine, IsSkipped, IsNodeLine, IsTxnLine, IsTaken}
 use Rattle.scenario.specs.Seen.{Seen}
 use Rattle.scenario.specs.declared.events.Event.TheVariants as events
-use Rattle.scenario.specs.declared.lines.Line.{Line}
 use Rattle.scenario.specs.declared.lines.Line.TheVariants as lines
 use Rattle.scenario.specs.declared.reader.Expected.TheVariants as expected
-use Rattle.scenario.proofs.Names.{one_txn_line, refuted}
+use Rattle.scenario.proofs.Names.{one_txn_line}
 
 -- where the line of the node is expected, no other line is read
 pub no_node : (seen : Seen) (line : List ℕ) → seen.expected ≡ expected.Node → ¬ IsSkipped line → ((n : ℕ) → ¬ IsNodeLine line n) → HasNoLine seen line

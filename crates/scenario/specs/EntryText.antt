@@ -1,6 +1,8 @@
 -- The text of a journal's entries. (Source: this project's profile.)
-use Rattle.std.specs.Prelude.{ℕ, List, [], ◌++◌, codes}
+use Rattle.std.specs.Prelude.{◌≡◌, ℕ, ◌<◌, List, [], ◌++◌, codes, length}
+use Rattle.std.specs.List.{flat_map}
 use Rattle.scenario.specs.AnswerText.{ack_text, fault_text, refusal_text, lost_text}
+use Rattle.scenario.specs.Names.{NamesOnly, NamesWithin}
 use Rattle.scenario.specs.StateText.{lease_text, lease_refusal_text, close_refusal_text, sql_refusal_text, schema_text, range_line, node_line, flight_line, fresh_line}
 use Rattle.scenario.specs.StepText.{event_line, begin_line, sent_line, message_line, append_line, apply_line, serve_line, fated_line, retry_line}
 use Rattle.scenario.specs.declared.entries.JournalEntry.{JournalEntry}
@@ -46,3 +48,13 @@ unfoldable pub entry_text : List (List ℕ) → Mode → JournalEntry → List �
 entry_text names mode.Answers e = answer_text names e
 entry_text names mode.Trace e = step_text names e ++ answer_text names e
 entry_text names mode.Summary e = []
+
+-- An entry that names only transactions that have a name keeps its text when more transactions are named.
+abbrev pub EntryTextStays : Type 0
+EntryTextStays = (names more : List (List ℕ)) (m : Mode) (e : JournalEntry) → NamesWithin names e
+    → entry_text (names ++ more) m e ≡ entry_text names m e
+
+-- The same of the texts of entries, one after another.
+abbrev pub TextsStay : Type 0
+TextsStay = (names more : List (List ℕ)) (m : Mode) (es : List JournalEntry) → NamesOnly (λ t. t.0 < length names) es
+    → flat_map (entry_text (names ++ more) m) es ≡ flat_map (entry_text names m) es

@@ -1,4 +1,4 @@
-use Rattle.std.specs.Prelude.{◌≡◌, ◌≢◌, ℕ, ◌+◌, ◌<◌, ◌≤◌, ◌^◌, ◌⊎◌, List, [], ◌∷◌, ◌++◌, length, All, Contains, slice_index, slice_get, codes, unwrap_or, IsUtf8, Result, Ok, Err}
+use Rattle.std.specs.Prelude.{◌≡◌, ◌≢◌, ℕ, ◌<◌, ◌≤◌, ◌^◌, ◌⊎◌, List, [], ◌∷◌, ◌++◌, length, All, Contains, slice_index, codes, IsUtf8, Result, Ok, Err}
 use Rattle.std.specs.Str.Parse.{IsNumeral, digits_value}
 use Rattle.mr_base.specs.declared.settings.Settings.{Settings}
 use Rattle.mr_base.specs.declared.settings.Kind.TheVariants as kinds
@@ -88,10 +88,6 @@ Reads seen line (lines.Sql text) seen' =
     × (((seen.expected ≡ expected.Database) × (text ≡ codes "CREATE DATABASE d") × (seen' ≡ record seen { expected = expected.Table }))
     ⊎ ((seen.expected ≡ expected.Table) × (text ≡ codes "CREATE TABLE t (id INT PRIMARY KEY)") × (seen' ≡ record seen { expected = expected.Begin })))
 Reads seen line (lines.Event e) seen' = ReadsEvent seen line e seen'
-
--- The name of a transaction whose line was read.
-abbrev pub name_of : List (List ℕ) → TxnId → List ℕ
-name_of names t = unwrap_or (slice_get names t.0) []
 
 -- The line of this transaction was read.
 abbrev pub IsRead : Seen → TxnId → Type 0

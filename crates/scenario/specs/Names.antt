@@ -1,4 +1,4 @@
-use Rattle.std.specs.Prelude.{◌≡◌, List, [], ◌∷◌}
+use Rattle.std.specs.Prelude.{◌≡◌, ℕ, ◌<◌, List, [], ◌∷◌, length}
 use Rattle.mr_base.specs.declared.ids.TxnId.{TxnId}
 use Rattle.scenario.specs.declared.entries.JournalEntry.{JournalEntry}
 use Rattle.scenario.specs.declared.entries.JournalEntry.TheVariants as entry
@@ -12,6 +12,10 @@ Names (entry.Fault txn ts state) t = t ≡ txn
 Names (entry.Refuse txn why) t = t ≡ txn
 Names (entry.Lost txn) t = t ≡ txn
 Names _ t = ⊥
+
+-- An entry names only transactions that have a name.
+abbrev pub NamesWithin : List (List ℕ) → JournalEntry → Type 0
+NamesWithin names e = (t : TxnId) → Names e t → t.0 < length names
 
 -- Each entry names only transactions of which P holds.
 abbrev pub NamesOnly : (TxnId → Type 0) → List JournalEntry → Type 0

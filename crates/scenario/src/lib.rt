@@ -8,14 +8,14 @@ mod entries;
 mod events;
 mod journal;
 mod lines;
-mod reader;
-mod world;
 mod logs;
 mod messages;
 mod parts;
+mod reader;
 mod states;
 mod steps;
 mod text;
+mod world;
 
 pub use counts::counts_of;
 pub use entries::{How, JournalEntry, LeaseWhy, Shown, SqlWhy, StatementResult, Verb, Why};
@@ -23,8 +23,8 @@ pub use events::Event;
 pub use journal::Journal;
 pub use lines::{Line, LineFault, Mode};
 pub use reader::{Expected, Scenario, standard_settings};
+pub use text::{text_of, texts_stay};
 pub use world::{NoWorld, World};
-pub use text::text_of;
 
 #[cfg(test)]
 mod tests;

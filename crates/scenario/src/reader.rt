@@ -1,7 +1,8 @@
 //! Reading the lines of a scenario.
 
 ghost use Rattle.std.specs.Prelude.{◌≡◌, ◌↔◌, [], ℕ, List, IfOk, IfErr, OnErr, IfSome, IfNone, IsTrue, Contains};
-ghost use Rattle.scenario.specs.Lines.{Answers, HasNoLine, Reads, IsSkipped, IsTxnName, IsTxnLine, IsClockText, IsNodeLine, IsRead, IsTaken, name_of, the_standard_settings};
+ghost use Rattle.scenario.specs.Lines.{Answers, HasNoLine, Reads, IsSkipped, IsTxnName, IsTxnLine, IsClockText, IsNodeLine, IsRead, IsTaken, the_standard_settings};
+ghost use Rattle.scenario.specs.Text.{name_of};
 ghost use Rattle.scenario.specs.declared.reader.Expected.TheVariants as expected;
 
 use crate::events::Event;
@@ -147,7 +148,8 @@ impl Scenario {
         }
     }
 
-    /// The names of the transactions, in the order in which their lines were read.
+    /// The names of the transactions, in the order in which their lines were read: `TxnId(k)` has the
+    /// name at place k, from 0 on.
     pub fn names(&self) -> &[Bytes]
         ensures { result.now ≡ self.now.names }
     {

@@ -1,7 +1,7 @@
 //! The text of a journal's entries.
 
 ghost use Rattle.std.specs.Prelude.{◌≡◌, ◌++◌, IfOk, OnOk};
-ghost use Rattle.scenario.specs.EntryText.{answer_text, step_text, entry_text};
+ghost use Rattle.scenario.specs.EntryText.{answer_text, step_text, entry_text, EntryTextStays, TextsStay};
 
 use crate::answers::{add_ack, add_fault, add_lost, add_refusal};
 use crate::buffer::TextBuffer;
@@ -156,3 +156,10 @@ pub fn text_of(
     add_entry(&mut text, names, entry, mode)?;
     Ok(text.into_bytes())
 }
+
+/// The text of entries stays the same when more transactions are named, as long as these entries name
+/// only transactions that had a name before: what was shown need not be shown again.
+pub fn texts_stay()
+    ensures entry { EntryTextStays }
+    ensures texts { TextsStay }
+{}
