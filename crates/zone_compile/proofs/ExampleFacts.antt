@@ -1,5 +1,5 @@
-use Rattle.std.proofs.Common.{◌≡◌, ◌≢◌, ℕ, zero, suc, ◌<◌, ◌≤◌, List, [], ◌∷◌, length, true, false, codes, refl, sym, ◌∙◌, arith}
-use Rattle.std.specs.Prelude.{Bool, ◌&&◌, nat_lt, All, AllPairs, IsUtf8, map, Some}
+use Rattle.std.proofs.Common.{◌≡◌, ◌≢◌, ℕ, zero, suc, ◌<◌, List, [], ◌∷◌, true, false, codes, refl, sym, ◌∙◌, arith}
+use Rattle.std.specs.Prelude.{Bool, ◌&&◌, nat_lt, All, AllPairs, IsUtf8}
 use Rattle.std.specs.List.{list_all}
 use Rattle.std.specs.Str.{IsAscii, bytes_eq}
 use Rattle.std.proofs.lemmas.Bool.Decides.{nat_tests}
@@ -8,7 +8,7 @@ use Rattle.std.proofs.lemmas.Slice.Eq.{bytes_eq-Decides}
 use Rattle.std.proofs.lemmas.Str.{IsUtf8-from_ascii}
 use Rattle.descriptors.specs.declared.database.Database.{Database}
 use Rattle.descriptors.specs.declared.table.Table.{Table}
-use Rattle.descriptors.specs.Sound.{AreDistinct, IsSoundDatabase, IsSoundIn, IsSoundTable}
+use Rattle.descriptors.specs.Sound.{AreDistinct, IsSoundDatabase, IsSoundIn}
 use Rattle.zone_compile.specs.Examples.{IsExample, IsExampleTable, example_regions}
 
 both : (a b : Bool) → (a && b) ≡ true → (a ≡ true) × (b ≡ true)
