@@ -1,4 +1,4 @@
-use Rattle.std.proofs.Common.{◌≡◌, ◌∷◌, [], List, ℕ, All, IsUtf8, sym, subst}
+use Rattle.std.proofs.Common.{◌∷◌, [], List, ℕ, All, IsUtf8, sym, subst}
 use Rattle.std.proofs.lemmas.List.Elements.{All-cons, All-nil}
 use Rattle.region_sql.specs.declared.region_statements.ColumnType.{ColumnType}
 use Rattle.region_sql.specs.declared.region_statements.ColumnType.TheVariants.{Int, String}

@@ -1,4 +1,4 @@
-use Rattle.std.proofs.Common.{◌≡◌, ◌∷◌, [], List, ℕ, All, IsUtf8, sym, subst, ◌∙◌, refl, codes, arith, length, ap}
+use Rattle.std.proofs.Common.{◌≡◌, ◌∷◌, [], List, ℕ, sym, subst, refl, codes, arith, length, ap}
 use Rattle.descriptors.specs.Sound.{AreDistinct, IsCluster}
 use Rattle.descriptors.proofs.Creations.{distinct_names}
 use Rattle.descriptors.proofs.tests.four_regions.Goals as goal
