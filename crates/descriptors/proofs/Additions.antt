@@ -1,13 +1,13 @@
-use Rattle.std.proofs.Common.{◌≡◌, ◌≢◌, ℕ, ◌+◌, ◌<◌, ◌≤◌, Bool, true, false, cond, List, [], ◌∷◌, ◌++◌, Option, None, Some, All, AllPairs, length, map, find, position, set, get_or, refl, ap, sym, ◌∙◌, arith, subst, add-zero, zero-add, append-nil, inl, inr, ◌⊎◌, slice_get, IsSomeAnd, option_and_then}
+use Rattle.std.proofs.Common.{◌≡◌, ◌≢◌, ℕ, ◌+◌, ◌<◌, Bool, true, false, cond, List, [], ◌∷◌, ◌++◌, Option, None, Some, All, AllPairs, length, map, find, position, set, get_or, refl, ap, sym, ◌∙◌, arith, subst, add-zero, zero-add, append-nil, inl, inr, ◌⊎◌, slice_get, IsSomeAnd, option_and_then}
 use Rattle.std.specs.List.{position_from}
 use Rattle.std.specs.Map.{lookup}
 use Rattle.std.specs.Str.{bytes_eq}
 use Rattle.std.proofs.lemmas.Bool.{cases_order, cases_eq}
 use Rattle.std.proofs.lemmas.Iterator.Adapters.{position_from-zero}
 use Rattle.std.proofs.lemmas.List.{get_or-map, get_or-set_other, get_or-set_same, length-map, length-set}
-use Rattle.std.proofs.lemmas.List.Elements.{All-head, All-tail, All-push, All-weaker}
+use Rattle.std.proofs.lemmas.List.Elements.{All-head, All-tail, All-push}
 use Rattle.std.specs.Option.{option_map, option_map_or}
-use Rattle.std.proofs.lemmas.Option.{none-some, slice_get_within, get_or_from_slice_get, slice_get_read, same_Some}
+use Rattle.std.proofs.lemmas.Option.{none-some, slice_get_within, get_or_from_slice_get, slice_get_read}
 use Rattle.std.proofs.Math.Seq.{map-set_same}
 use Rattle.std.proofs.lemmas.Slice.Eq.{bytes_eq-Decides}
 use Rattle.descriptors.specs.declared.database.Database.{Database}
@@ -19,7 +19,7 @@ use Rattle.descriptors.specs.Changes.{with_locality, with_table}
 use Rattle.descriptors.specs.Lists.{changed}
 use Rattle.descriptors.specs.Index.{IsIndexed, placed}
 use Rattle.descriptors.proofs.Edits.{changed-at, changed-none}
-use Rattle.descriptors.proofs.Index.{lookup-placed, placed-set, lookup_in_entry, reindexed, table_key}
+use Rattle.descriptors.proofs.Index.{placed-set, lookup_in_entry, reindexed, table_key}
 
 pub bytes_differ : (a b : List ℕ) → a ≢ b → bytes_eq a b ≡ false
 bytes_differ a b differ = by (bytes_eq a b) refl

@@ -1,9 +1,9 @@
-use Rattle.std.proofs.Common.{◌≡◌, ◌≢◌, ℕ, zero, suc, ◌+◌, ◌<◌, ◌≤◌, ◌==◌, Bool, true, false, cond, not, ◌&&◌, ◌||◌, List, [], ◌∷◌, ◌++◌, Option, None, Some, All, AllPairs, IsTrue, IsUtf8, length, map, find, position, get_or, refl, ap, sym, ◌∙◌, arith, subst, slice_get, option_and_then, is_some, is_none, nat_lt, nat_le, true≢false, unwrap_or}
+use Rattle.std.proofs.Common.{◌≡◌, ◌≢◌, ℕ, zero, suc, ◌<◌, Bool, true, false, cond, not, ◌&&◌, List, [], ◌∷◌, ◌++◌, Option, None, Some, All, AllPairs, IsTrue, IsUtf8, length, find, get_or, refl, ap, sym, ◌∙◌, arith, subst, slice_get, option_and_then, nat_le, true≢false, unwrap_or}
 use Rattle.std.specs.List.{list_any, list_all}
 use Rattle.std.specs.Option.{option_map_or, option_or}
 use Rattle.std.specs.Str.{bytes_eq}
-use Rattle.std.proofs.lemmas.Bool.{not-false, ltb-false}
-use Rattle.std.proofs.lemmas.List.Elements.{All-head, All-tail, All-cons, All-nil, All-push, All-filter, All-weaker, filter_passes, All-contains}
+use Rattle.std.proofs.lemmas.Bool.{not-false}
+use Rattle.std.proofs.lemmas.List.Elements.{All-cons, All-nil, All-push, All-filter, All-weaker, filter_passes, All-contains}
 use Rattle.std.proofs.lemmas.List.Folds.{find-append}
 use Rattle.std.proofs.lemmas.List.Kept.{AllPairs-filter, AllPairs-cons}
 use Rattle.std.proofs.lemmas.List.Quantifiers.{all_pairs_push}
@@ -21,9 +21,9 @@ use Rattle.descriptors.specs.Changes.{after, database_made, locality_made, table
 use Rattle.descriptors.specs.Columns.{columns_of, make_no_table}
 use Rattle.descriptors.specs.Lists.{changed, has_name, has_twice, without}
 use Rattle.descriptors.specs.Refusals.{rows_of, of_current, has_regions, misses_locality, regions_made, survives_region, fits}
-use Rattle.descriptors.specs.Sound.{AreDistinct, FitsRegions, IsPrimaryOf, IsSoundAmong, IsSoundCatalog, IsSoundDatabase, IsSoundIn, IsSoundTable}
+use Rattle.descriptors.specs.Sound.{AreDistinct, FitsRegions, IsPrimaryOf, IsSoundAmong, IsSoundCatalog, IsSoundDatabase}
 use Rattle.descriptors.proofs.Additions.{bytes_differ, bytes_same}
-use Rattle.descriptors.proofs.Found.{NoneApplies, and_false, and_true, or_false, there, have, nowhere, found, none_found, same_bytes, differ_bytes, named, not_named, no_more}
+use Rattle.descriptors.proofs.Found.{NoneApplies, and_false, and_true, or_false, there, nowhere, found, none_found, same_bytes, differ_bytes, named, not_named, no_more}
 use Rattle.descriptors.proofs.Regions.{all_changed, some_regions, enough_regions, survived, named_any, located}
 use Rattle.descriptors.proofs.SoundTables.{sound_table}
 

@@ -1,15 +1,13 @@
-use Rattle.std.proofs.Common.{◌≡◌, ◌≢◌, ℕ, zero, suc, ◌+◌, ◌<◌, ◌≤◌, Bool, true, false, cond, not, ◌&&◌, ◌||◌, List, [], ◌∷◌, ◌++◌, Option, None, Some, All, AllPairs, Contains, Any, length, map, find, filter, position, set, get_or, refl, ap, sym, ◌∙◌, arith, subst, is_none, is_some, true≢false}
-use Rattle.std.specs.List.{list_any}
+use Rattle.std.proofs.Common.{◌≡◌, ◌≢◌, ℕ, zero, suc, ◌<◌, ◌≤◌, Bool, true, false, cond, not, ◌&&◌, ◌||◌, List, [], ◌∷◌, Option, None, Some, All, AllPairs, Contains, length, find, get_or, refl, ap, sym, ◌∙◌, arith, subst, is_none, is_some, true≢false}
 use Rattle.std.specs.Str.{bytes_eq}
-use Rattle.std.proofs.lemmas.Bool.{not-false}
 use Rattle.std.proofs.lemmas.List.Elements.{All-head, All-tail, All-cons, All-nil}
 use Rattle.std.proofs.lemmas.List.Folds.{Any-from_list_any, list_any-from_Any}
 use Rattle.std.proofs.lemmas.Option.{none-some, same_Some}
 use Rattle.std.proofs.lemmas.Slice.Eq.{bytes_eq-Decides}
 use Rattle.descriptors.specs.declared.refusals.CatalogRefusal.{CatalogRefusal}
-use Rattle.descriptors.specs.Lists.{changed, has_name, has_twice, without}
+use Rattle.descriptors.specs.Lists.{changed, has_name, without}
 use Rattle.descriptors.specs.Refusals.{first_of}
-use Rattle.descriptors.proofs.Additions.{bytes_differ, bytes_same}
+use Rattle.descriptors.proofs.Additions.{bytes_same}
 
 -- Tests that are false.
 pub and_false : (a b : Bool) → (a && b) ≡ false → a ≡ true → b ≡ false

@@ -1,4 +1,4 @@
-use Rattle.std.proofs.Common.{◌≡◌, ℕ, ◌+◌, ◌<◌, ◌≤◌, Bool, true, false, cond, ◌&&◌, List, [], ◌∷◌, ◌++◌, Option, None, Some, length, map, find, position, slice_get, option_and_then, set, get_or, refl, ap, sym, ◌∙◌, arith, nat_lt, subst, take, drop, append-nil}
+use Rattle.std.proofs.Common.{◌≡◌, ℕ, ◌+◌, ◌<◌, Bool, true, false, cond, ◌&&◌, List, [], ◌∷◌, ◌++◌, Option, None, Some, length, map, find, position, slice_get, option_and_then, set, get_or, refl, ap, sym, ◌∙◌, arith, nat_lt, subst, take, drop, append-nil}
 use Rattle.std.specs.List.{position_from, position_or_len}
 use Rattle.std.specs.Map.{lookup}
 use Rattle.std.specs.Str.{bytes_eq}

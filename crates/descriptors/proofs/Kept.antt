@@ -1,4 +1,4 @@
-use Rattle.std.proofs.Common.{◌≡◌, ◌≢◌, ℕ, ◌+◌, ◌<◌, ◌≤◌, Bool, true, false, cond, List, [], ◌∷◌, ◌++◌, Option, None, Some, All, AllPairs, Contains, length, map, find, refl, ap, sym, ◌∙◌, arith, subst, Result, Ok, Err, OnOk, OnErr}
+use Rattle.std.proofs.Common.{◌≡◌, ℕ, Bool, true, false, cond, List, None, map, refl, sym, subst, Result, Ok, Err, OnOk, OnErr}
 use Rattle.region_sql.specs.declared.region_statements.RegionStatement.{RegionStatement}
 use Rattle.region_sql.specs.declared.region_statements.RegionStatement.TheVariants.{CreateDatabase, Use, SetPrimary, AddRegion, DropRegion, Survive, Placement, CreateTable, SetLocality}
 use Rattle.descriptors.specs.Contents.{Contents, is_database}

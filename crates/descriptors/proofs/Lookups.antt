@@ -1,9 +1,8 @@
-use Rattle.std.proofs.Common.{◌≡◌, ℕ, Bool, cond, List, [], ◌∷◌, ◌++◌, Option, None, Some, map, refl, ap, sym, ◌∙◌}
+use Rattle.std.proofs.Common.{◌≡◌, ℕ, Bool, cond, List, [], ◌∷◌, ◌++◌, None, Some, map, refl, ap, ◌∙◌}
 use Rattle.std.specs.List.{AllZip}
 use Rattle.std.specs.Map.{lookup}
 use Rattle.std.specs.Str.{bytes_eq}
 use Rattle.std.proofs.lemmas.List.{map-append}
-use Rattle.std.proofs.lemmas.List.Elements.{same_from_all_zip}
 
 -- A look-up among the keys as bytes is one among the keys.
 pub lookup-map : {K V : Type 0} (key : K → List ℕ) (test : List ℕ → Bool) (es : List (K × V)) → lookup (λ k. test (key k)) es ≡ lookup test (map (λ e. (key e.0, e.1)) es)

@@ -1,4 +1,4 @@
-use Rattle.std.proofs.Common.{◌≡◌, ◌≢◌, ℕ, zero, suc, ◌+◌, ◌<◌, ◌≤◌, Bool, true, false, cond, not, ◌&&◌, ◌||◌, List, [], ◌∷◌, ◌++◌, Option, None, Some, All, AllPairs, Any, Contains, IsTrue, IsUtf8, length, map, find, position, get_or, refl, ap, sym, ◌∙◌, arith, subst, slice_get, option_and_then, is_some, is_none, nat_lt, true≢false, inl, inr, ◌⊎◌}
+use Rattle.std.proofs.Common.{◌≡◌, ◌≢◌, ℕ, zero, suc, ◌+◌, ◌<◌, ◌≤◌, Bool, true, false, cond, not, ◌&&◌, ◌||◌, List, [], ◌∷◌, ◌++◌, Option, None, Some, All, AllPairs, Any, IsTrue, IsUtf8, length, map, find, position, get_or, refl, ap, sym, ◌∙◌, arith, subst, slice_get, option_and_then, is_some, nat_lt, true≢false, inl, inr, ◌⊎◌}
 use Rattle.std.specs.List.{list_any, position_from}
 use Rattle.std.specs.Option.{option_map_or}
 use Rattle.std.specs.Str.{bytes_eq}
@@ -9,7 +9,7 @@ use Rattle.std.proofs.lemmas.List.Elements.{All-head, All-tail, All-cons, All-ni
 use Rattle.std.proofs.lemmas.List.Folds.{Any-from_list_any, list_any-from_Any, list_any-append}
 use Rattle.std.proofs.lemmas.List.Kept.{AllPairs-filter}
 use Rattle.std.proofs.lemmas.List.Quantifiers.{all_pairs_push, position-Some}
-use Rattle.std.proofs.lemmas.Option.{none-some, same_Some, slice_get_within, get_or_from_slice_get, slice_get-get_or}
+use Rattle.std.proofs.lemmas.Option.{slice_get-get_or}
 use Rattle.region_sql.specs.declared.region_statements.Goal.{Goal}
 use Rattle.region_sql.specs.declared.region_statements.Goal.TheVariants as goals
 use Rattle.region_sql.specs.declared.region_statements.Locality.{Locality}
@@ -21,9 +21,9 @@ use Rattle.descriptors.specs.Contents.{Contents, is_database, database_named}
 use Rattle.descriptors.specs.Changes.{with_database, with_goal, with_primary, with_region, with_restricted, without_region, with_first_region, homed_in_primary, with_locality}
 use Rattle.descriptors.specs.Lists.{changed, has_name, without}
 use Rattle.descriptors.specs.Refusals.{rows_of, of_database, has_regions, survives_region, lives_in, primary_region, misses_region}
-use Rattle.descriptors.specs.Sound.{AreDistinct, FitsRegions, IsPrimaryOf, IsSoundAmong, IsSoundCatalog, IsSoundDatabase, IsSoundIn, IsSoundTable}
+use Rattle.descriptors.specs.Sound.{AreDistinct, FitsRegions, IsPrimaryOf, IsSoundAmong, IsSoundCatalog, IsSoundDatabase, IsSoundTable}
 use Rattle.descriptors.proofs.Additions.{bytes_differ, bytes_same}
-use Rattle.descriptors.proofs.Found.{NoneApplies, and_false, or_false, and_true, there, have, found, find-changed, find-changed_other, same_bytes, differ_bytes, named, has_named, not_named, has_without, no_more, nowhere, length-without-le}
+use Rattle.descriptors.proofs.Found.{NoneApplies, and_false, or_false, have, found, find-changed, find-changed_other, same_bytes, differ_bytes, named, has_named, not_named, has_without, no_more, nowhere, length-without-le}
 
 -- A test of the database that is there.
 pub test_of : (c : Contents) (n : List ℕ) (d : Database) (test : Database → Bool) → database_named n c.databases ≡ Some d → of_database c n test ≡ false → test d ≡ false

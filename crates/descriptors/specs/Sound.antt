@@ -1,4 +1,4 @@
-use Rattle.std.specs.Prelude.{◌≡◌, ◌≢◌, ℕ, ◌<◌, ◌≤◌, ⊤, List, [], length, map, All, AllPairs, Any, IsUtf8, Option, Some, None, Bool, true, IsTrue, codes}
+use Rattle.std.specs.Prelude.{◌≡◌, ◌≢◌, ℕ, ◌<◌, ◌≤◌, List, [], length, map, All, AllPairs, Any, IsUtf8, Option, Some, None, true, IsTrue, codes}
 use Rattle.region_sql.specs.declared.region_statements.Goal.TheVariants as goals
 use Rattle.region_sql.specs.declared.region_statements.Locality.{Locality}
 use Rattle.region_sql.specs.declared.region_statements.Locality.TheVariants as localities

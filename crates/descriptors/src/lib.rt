@@ -18,3 +18,6 @@ pub use catalog::Catalog;
 pub use database::Database;
 pub use refusals::CatalogRefusal;
 pub use table::Table;
+
+#[cfg(test)]
+mod tests;

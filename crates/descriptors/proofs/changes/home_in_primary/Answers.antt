@@ -1,4 +1,4 @@
-use Rattle.std.proofs.Common.{◌≡◌, ◌++◌, ◌∙◌, ap, map, set, take, drop, arith, subst, sym, get_or}
+use Rattle.std.proofs.Common.{◌≡◌, ◌∙◌, ap, set, arith, sym}
 use Rattle.std.proofs.lemmas.List.Edits.{map_over_more}
 use Rattle.descriptors.specs.Changes.{homed_in_primary}
 use Rattle.descriptors.proofs.changes.home_in_primary.Goals as goal

@@ -1,4 +1,4 @@
-use Rattle.std.proofs.Common.{◌≡◌, ◌++◌, ap, ◌∙◌, position, arith}
+use Rattle.std.proofs.Common.{◌++◌, ap, ◌∙◌, position, arith}
 use Rattle.std.specs.Option.{option_to_list}
 use Rattle.std.specs.Str.{bytes_eq}
 use Rattle.descriptors.proofs.Steps.{filter_map_step}

@@ -1,4 +1,4 @@
-use Rattle.std.proofs.Common.{◌≡◌, ap, sym, ◌∙◌, refl}
+use Rattle.std.proofs.Common.{sym, ◌∙◌}
 use Rattle.descriptors.specs.Changes.{after}
 use Rattle.descriptors.proofs.Kept.{sound_after, sound_either_way}
 use Rattle.descriptors.proofs.catalog.Catalog.apply.Goals as goal

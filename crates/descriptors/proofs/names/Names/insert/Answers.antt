@@ -1,4 +1,4 @@
-use Rattle.std.proofs.Common.{nat_eq, ◌∙◌}
+use Rattle.std.proofs.Common.{◌∙◌}
 use Rattle.std.specs.Str.{bytes_eq}
 use Rattle.indexmap.proofs.CallerLemmas.{insert_entry-new}
 use Rattle.descriptors.proofs.Lookups.{absent_as_key, pushed_as_seen}

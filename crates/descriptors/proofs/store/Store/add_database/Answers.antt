@@ -1,9 +1,7 @@
-use Rattle.std.proofs.Common.{◌≡◌, ◌++◌, ◌∷◌, [], ap, sym, ◌∙◌, refl, subst, find, length, map, position, true, false, All}
+use Rattle.std.proofs.Common.{◌≡◌, ◌++◌, ◌∷◌, [], ap, sym, ◌∙◌, subst, find, map, true, false, All}
 use Rattle.std.specs.Map.{lookup}
 use Rattle.std.specs.Str.{bytes_eq}
-use Rattle.descriptors.specs.declared.database.Database.{Database}
 use Rattle.descriptors.specs.declared.store.Entry.{Entry}
-use Rattle.descriptors.specs.declared.table.Table.{Table}
 use Rattle.descriptors.specs.Contents.{Contents, is_database}
 use Rattle.descriptors.specs.Index.{IsIndexed}
 use Rattle.descriptors.proofs.Index.{lookup-placed, position-map}

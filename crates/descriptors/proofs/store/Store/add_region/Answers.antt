@@ -1,8 +1,5 @@
-use Rattle.std.proofs.Common.{refl, ap, ◌∙◌, ◌∷◌, [], Some, position, option_and_then}
-use Rattle.std.specs.Str.{bytes_eq}
+use Rattle.std.proofs.Common.{refl, ap, ◌∙◌}
 use Rattle.descriptors.specs.declared.database.Database.{Database}
-use Rattle.descriptors.specs.Lists.{without}
-use Rattle.descriptors.specs.Refusals.{primary_region}
 use Rattle.descriptors.specs.Changes.{with_region}
 use Rattle.descriptors.proofs.Edits.{edited_index, edited_view, unedited, entry_within}
 use Rattle.descriptors.proofs.store.Store.add_region.Goals as goal

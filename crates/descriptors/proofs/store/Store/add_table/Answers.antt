@@ -1,10 +1,8 @@
-use Rattle.std.proofs.Common.{◌≡◌, ◌≢◌, ◌++◌, ◌∷◌, [], AllPairs, IsSomeAnd, ap, sym, ◌∙◌, refl, subst, find, length, map, position, set, slice_get, true, Some}
+use Rattle.std.proofs.Common.{◌≡◌, ◌≢◌, ◌++◌, ◌∷◌, [], AllPairs, IsSomeAnd, ap, sym, ◌∙◌, refl, subst, find, set, slice_get}
 use Rattle.std.specs.Map.{lookup}
-use Rattle.std.specs.Option.{option_map}
 use Rattle.std.specs.Str.{bytes_eq}
 use Rattle.descriptors.specs.declared.database.Database.{Database}
 use Rattle.descriptors.specs.declared.store.Entry.{Entry}
-use Rattle.descriptors.specs.declared.table.Table.{Table}
 use Rattle.descriptors.specs.Contents.{Contents, is_table}
 use Rattle.descriptors.specs.Index.{IsIndexed}
 use Rattle.descriptors.proofs.Additions.{added_table, absent_in_entry, home_of, tabled_view}

@@ -1,4 +1,4 @@
-use Rattle.std.proofs.Common.{◌≡◌, ap, sym, ◌∙◌, refl, subst, false, None, All}
+use Rattle.std.proofs.Common.{◌≡◌, ap, sym, ◌∙◌, subst, false, All}
 use Rattle.std.specs.Str.{bytes_eq}
 use Rattle.region_sql.specs.declared.region_statements.RegionStatement.TheVariants.{CreateDatabase}
 use Rattle.descriptors.specs.declared.database.Database.{Database}

@@ -1,4 +1,4 @@
-use Rattle.std.proofs.Common.{refl, ap, ◌∙◌, ◌∷◌, [], Some, position, option_and_then}
+use Rattle.std.proofs.Common.{refl, ap, ◌∙◌, position, option_and_then}
 use Rattle.std.specs.Str.{bytes_eq}
 use Rattle.descriptors.specs.declared.database.Database.{Database}
 use Rattle.descriptors.specs.Lists.{without}

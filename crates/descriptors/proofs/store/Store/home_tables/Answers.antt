@@ -1,5 +1,4 @@
-use Rattle.std.proofs.Common.{◌≡◌, ◌++◌, map, sym, ap, ◌∙◌, length, take, drop}
-use Rattle.descriptors.specs.declared.table.Table.{Table}
+use Rattle.std.proofs.Common.{map, ap, ◌∙◌}
 use Rattle.descriptors.specs.Changes.{homed_in_primary}
 use Rattle.descriptors.proofs.Index.{reindexed, homed-keys, table_key, written_whole}
 use Rattle.descriptors.proofs.store.Store.home_tables.Goals as goal

@@ -1,6 +1,6 @@
 use Rattle.std.proofs.Common.{ap, ◌∙◌, sym, position, option_and_then, slice_get, Some, None}
 use Rattle.descriptors.specs.declared.database.Database.{Database}
-use Rattle.descriptors.specs.Contents.{Contents, is_table, current_database}
+use Rattle.descriptors.specs.Contents.{Contents, is_table}
 use Rattle.descriptors.proofs.Index.{current_entry, lookup_in_entry}
 use Rattle.descriptors.proofs.store.Store.place_of_table.Goals as goal
 

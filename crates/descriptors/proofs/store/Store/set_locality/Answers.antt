@@ -1,8 +1,7 @@
-use Rattle.std.proofs.Common.{◌≡◌, ap, sym, ◌∙◌, map, position, Some, option_and_then}
+use Rattle.std.proofs.Common.{ap, sym, ◌∙◌, map, position, option_and_then}
 use Rattle.std.specs.Option.{option_map_or}
 use Rattle.descriptors.specs.declared.database.Database.{Database}
 use Rattle.descriptors.specs.declared.store.Entry.{Entry}
-use Rattle.descriptors.specs.declared.table.Table.{Table}
 use Rattle.descriptors.specs.Contents.{Contents, is_table, current_database}
 use Rattle.descriptors.specs.Changes.{with_locality}
 use Rattle.descriptors.specs.Lists.{changed}

@@ -1,4 +1,4 @@
-use Rattle.std.proofs.Common.{refl, ap, sym, ◌∙◌, [], ◌∷◌, ◌++◌}
+use Rattle.std.proofs.Common.{refl}
 use Rattle.descriptors.specs.Changes.{with_primary}
 use Rattle.descriptors.proofs.Edits.{edited_index, edited_view, unedited, entry_within}
 use Rattle.descriptors.proofs.store.Store.set_primary.Goals as goal

@@ -1,0 +1,364 @@
+//! Statements with the code that each must get, one after the other.
+
+ghost use Rattle.std.specs.Prelude.{◌≡◌, ◌∷◌, [], All, IfOk, IsUtf8};
+ghost use Rattle.descriptors.specs.Columns.{columns_of};
+ghost use Rattle.descriptors.specs.Changes.{NewNamesAreUtf8};
+
+use super::*;
+use mr_base::{Bytes, CloneIn, ListOf, Memory, SqlState};
+use region_sql::{ColumnKey, ColumnType, Goal, Item, Locality, RegionStatement};
+use std::alloc::Global;
+use std::test::Fail;
+
+/// The statements, each with a name and up to two more words.
+#[derive(Clone, Copy)]
+enum Kind {
+    /// CREATE DATABASE, with a primary region and one in REGIONS
+    Database,
+    /// The same with SURVIVE REGION FAILURE
+    Surviving,
+    /// CREATE DATABASE with the second word twice in REGIONS
+    Twice,
+    /// The same with SURVIVE REGION FAILURE
+    SurvivingTwice,
+    Use,
+    Primary,
+    Add,
+    Drop,
+    Zone,
+    Region,
+    Restricted,
+    Default,
+    /// CREATE TABLE with a key column id and a column of the second word
+    Table,
+    /// The same with both columns as keys
+    TwoKeys,
+    /// The same without a key
+    NoKey,
+    Locality,
+}
+
+/// The bytes of a text.
+fn bytes(alloc: Global, s: &str) -> Result<Bytes, Memory>
+    ensures exact { IfOk result (λ b. b ≡ s.now) }
+    ensures utf8 { IfOk result IsUtf8 }
+{
+    Bytes::from_slice(alloc, s.as_bytes())
+}
+
+/// The bytes of a text that isn't empty.
+fn optional(alloc: Global, s: &str) -> Result<Option<Bytes>, Memory> {
+    if s.is_empty() {
+        return Ok(None);
+    }
+    Ok(Some(bytes(alloc, s)?))
+}
+
+/// The region of the text as often as is said, and never where it is empty.
+fn listed(alloc: Global, s: &str, twice: bool) -> Result<ListOf<Bytes>, Memory> {
+    let mut regions = ListOf::new(alloc);
+    if !s.is_empty() {
+        regions.push(bytes(alloc, s)?)?;
+        if twice {
+            regions.push(bytes(alloc, s)?)?;
+        }
+    }
+    Ok(regions)
+}
+
+/// No locality, GLOBAL for a star, or a region.
+fn locality(alloc: Global, s: &str) -> Result<Option<Locality>, Memory> {
+    if s.is_empty() {
+        return Ok(None);
+    }
+    if s == "*" {
+        return Ok(Some(Locality::Global));
+    }
+    let region = bytes(alloc, s)?;
+    Ok(Some(Locality::InRegion { region }))
+}
+
+fn create_database(
+    alloc: Global,
+    words: (&str, &str, &str),
+    twice: bool,
+    goal: Option<Goal>,
+) -> Result<RegionStatement, Memory>
+    ensures { IfOk result NewNamesAreUtf8 }
+{
+    let name = bytes(alloc, words.0)?;
+    let primary = optional(alloc, words.1)?;
+    let regions = listed(alloc, words.2, twice)?;
+    Ok(RegionStatement::CreateDatabase {
+        name,
+        primary,
+        regions,
+        goal,
+    })
+}
+
+fn two_columns(
+    alloc: Global,
+    id: Bytes,
+    first: ColumnKey,
+    other: Bytes,
+    second: ColumnKey,
+) -> Result<ListOf<Item>, Memory>
+    ensures { IfOk result (λ items. columns_of items ≡ (id, ColumnType.Int) ∷ (other, ColumnType.String) ∷ []) }
+{
+    let mut items = ListOf::new(alloc);
+    items.push(Item::Column {
+        name: id,
+        ty: ColumnType::Int,
+        not_null: false,
+        key: first,
+    })?;
+    items.push(Item::Column {
+        name: other,
+        ty: ColumnType::String,
+        not_null: false,
+        key: second,
+    })?;
+    Ok(items)
+}
+
+fn create_table(
+    alloc: Global,
+    words: (&str, &str, &str),
+    first: ColumnKey,
+    second: ColumnKey,
+) -> Result<RegionStatement, Memory>
+    ensures { IfOk result NewNamesAreUtf8 }
+{
+    let locality = locality(alloc, words.1)?;
+    let id = bytes(alloc, "id")?;
+    let other = bytes(alloc, words.2)?;
+    let items = two_columns(alloc, id, first, other, second)?;
+    let name = bytes(alloc, words.0)?;
+    Ok(RegionStatement::CreateTable {
+        name,
+        items,
+        locality,
+    })
+}
+
+fn statement(
+    alloc: Global,
+    kind: Kind,
+    words: (&str, &str, &str),
+) -> Result<RegionStatement, Memory>
+    ensures { IfOk result NewNamesAreUtf8 }
+{
+    let database = bytes(alloc, words.0)?;
+    let region = bytes(alloc, words.1)?;
+    match kind {
+        Kind::Database => create_database(alloc, words, false, None),
+        Kind::Surviving => create_database(alloc, words, false, Some(Goal::Region)),
+        Kind::Twice => create_database(alloc, words, true, None),
+        Kind::SurvivingTwice => create_database(alloc, words, true, Some(Goal::Region)),
+        Kind::Use => Ok(RegionStatement::Use { name: database }),
+        Kind::Primary => Ok(RegionStatement::SetPrimary { database, region }),
+        Kind::Add => Ok(RegionStatement::AddRegion { database, region }),
+        Kind::Drop => Ok(RegionStatement::DropRegion { database, region }),
+        Kind::Zone => Ok(RegionStatement::Survive {
+            database,
+            goal: Goal::Zone,
+        }),
+        Kind::Region => Ok(RegionStatement::Survive {
+            database,
+            goal: Goal::Region,
+        }),
+        Kind::Restricted => Ok(RegionStatement::Placement {
+            database,
+            restricted: true,
+        }),
+        Kind::Default => Ok(RegionStatement::Placement {
+            database,
+            restricted: false,
+        }),
+        Kind::Table => create_table(alloc, words, ColumnKey::Primary, ColumnKey::Unique),
+        Kind::TwoKeys => create_table(alloc, words, ColumnKey::Primary, ColumnKey::Primary),
+        Kind::NoKey => create_table(alloc, words, ColumnKey::Plain, ColumnKey::Unique),
+        Kind::Locality => {
+            let locality = match locality(alloc, words.1)? {
+                Some(locality) => locality,
+                None => Locality::ByRow,
+            };
+            Ok(RegionStatement::SetLocality {
+                table: database,
+                locality,
+            })
+        }
+    }
+}
+
+/// The code of an answer.
+fn code(answer: Result<(), CatalogRefusal>) -> &'static str {
+    match answer {
+        Ok(()) => "",
+        Err(CatalogRefusal::State(SqlState::S3D000)) => "3D000",
+        Err(CatalogRefusal::State(SqlState::S42P04)) => "42P04",
+        Err(CatalogRefusal::State(SqlState::S42P07)) => "42P07",
+        Err(CatalogRefusal::State(SqlState::S42P01)) => "42P01",
+        Err(CatalogRefusal::D(1)) => "D1",
+        Err(CatalogRefusal::D(2)) => "D2",
+        Err(CatalogRefusal::D(3)) => "D3",
+        Err(CatalogRefusal::D(4)) => "D4",
+        Err(CatalogRefusal::D(5)) => "D5",
+        Err(CatalogRefusal::D(6)) => "D6",
+        Err(CatalogRefusal::D(7)) => "D7",
+        Err(CatalogRefusal::D(8)) => "D8",
+        Err(CatalogRefusal::D(9)) => "D9",
+        Err(CatalogRefusal::D(11)) => "D11",
+        Err(_) => "other",
+    }
+}
+
+/// A statement, its words and its code; nothing where it is accepted.
+type Line = (
+    Kind,
+    (&'static str, &'static str, &'static str),
+    &'static str,
+);
+
+static LINES: [Line; 80] = [
+    // before any database
+    (Kind::Table, ("t", "", "id"), "3D000"),
+    (Kind::Use, ("x", "", ""), "3D000"),
+    (Kind::Locality, ("t", "*", ""), "3D000"),
+    // a database of two regions
+    (Kind::Database, ("d", "us-east", "us-west"), ""),
+    (Kind::Region, ("d", "", ""), "D5"),
+    (Kind::Add, ("d", "mars", ""), "D1"),
+    (Kind::Add, ("d", "us-west", ""), "D2"),
+    (Kind::Drop, ("d", "us-east", ""), "D6"),
+    (Kind::Database, ("d", "", ""), "42P04"),
+    (Kind::Zone, ("x", "", ""), "3D000"),
+    (Kind::Locality, ("u", "*", ""), "42P01"),
+    // which refusal goes first at CREATE DATABASE
+    (Kind::Database, ("d", "mars", ""), "42P04"),
+    (Kind::Twice, ("d", "us-east", "us-west"), "42P04"),
+    (Kind::Surviving, ("d", "us-east", "us-west"), "42P04"),
+    (Kind::Twice, ("n", "mars", "us-west"), "D1"),
+    (Kind::Surviving, ("n", "mars", "us-west"), "D1"),
+    (Kind::SurvivingTwice, ("n", "us-east", "us-west"), "D2"),
+    (Kind::Surviving, ("n", "us-east", "us-west"), "D5"),
+    // a database without regions
+    (Kind::Database, ("bare", "", ""), ""),
+    (Kind::Add, ("bare", "mars", ""), "D1"),
+    (Kind::Add, ("bare", "asia", ""), "D4"),
+    (Kind::Drop, ("bare", "asia", ""), "D4"),
+    (Kind::Region, ("bare", "", ""), "D4"),
+    (Kind::Zone, ("bare", "", ""), "D4"),
+    (Kind::Restricted, ("bare", "", ""), "D4"),
+    (Kind::Primary, ("bare", "mars", ""), "D1"),
+    (Kind::Table, ("t", "*", "id"), "D7"),
+    (Kind::Table, ("t", "", "s"), ""),
+    (Kind::Table, ("t", "*", "s"), "42P07"),
+    (Kind::Table, ("t", "", "id"), "42P07"),
+    (Kind::Locality, ("t", "*", ""), "D7"),
+    (Kind::Locality, ("u", "*", ""), "42P01"),
+    // it gets a region
+    (Kind::Primary, ("bare", "asia", ""), ""),
+    (Kind::Primary, ("bare", "mars", ""), "D3"),
+    (Kind::Drop, ("bare", "eu-west", ""), "D3"),
+    (Kind::Locality, ("t", "eu-west", ""), "D3"),
+    (Kind::Locality, ("u", "eu-west", ""), "42P01"),
+    (Kind::Table, ("t", "eu-west", "s"), "42P07"),
+    (Kind::Table, ("v", "eu-west", "id"), "D3"),
+    (Kind::Table, ("v", "", "id"), "D8"),
+    (Kind::Table, ("v", "", "crdb_region"), "D8"),
+    (Kind::TwoKeys, ("v", "", "s"), "D8"),
+    (Kind::NoKey, ("v", "", "s"), "D8"),
+    (Kind::Locality, ("t", "asia", ""), ""),
+    // restricted, then surviving the loss of a region
+    (Kind::Use, ("d", "", ""), ""),
+    (Kind::Restricted, ("d", "", ""), ""),
+    (Kind::Region, ("d", "", ""), "D5"),
+    (Kind::Add, ("d", "eu-west", ""), ""),
+    (Kind::Region, ("d", "", ""), "D11"),
+    (Kind::Default, ("d", "", ""), ""),
+    (Kind::Region, ("d", "", ""), ""),
+    (Kind::Restricted, ("d", "", ""), "D11"),
+    (Kind::Drop, ("d", "us-east", ""), "D5"),
+    (Kind::Table, ("p", "us-west", "s"), ""),
+    (Kind::Drop, ("d", "us-west", ""), "D5"),
+    (Kind::Add, ("d", "asia", ""), ""),
+    (Kind::Drop, ("d", "us-west", ""), "D9"),
+    (Kind::Table, ("q", "us-east", "s"), ""),
+    (Kind::Drop, ("d", "us-east", ""), "D6"),
+    (Kind::Primary, ("d", "asia", ""), ""),
+    (Kind::Drop, ("d", "eu-west", ""), ""),
+    // as many databases as may be
+    (Kind::Database, ("f0", "", ""), ""),
+    (Kind::Database, ("f1", "", ""), ""),
+    (Kind::Database, ("f2", "", ""), ""),
+    (Kind::Database, ("f3", "", ""), ""),
+    (Kind::Database, ("f4", "", ""), ""),
+    (Kind::Database, ("f5", "", ""), ""),
+    (Kind::Database, ("f6", "", ""), ""),
+    (Kind::Database, ("f7", "", ""), ""),
+    (Kind::Database, ("f8", "", ""), ""),
+    (Kind::Database, ("f9", "", ""), ""),
+    (Kind::Database, ("f10", "", ""), ""),
+    (Kind::Database, ("f11", "", ""), ""),
+    (Kind::Database, ("f12", "", ""), ""),
+    (Kind::Database, ("f13", "", ""), ""),
+    (Kind::Database, ("g", "", ""), "D8"),
+    (Kind::Database, ("d", "", ""), "42P04"),
+    (Kind::Database, ("g", "mars", ""), "D1"),
+    (Kind::Twice, ("g", "us-east", "us-west"), "D2"),
+    (Kind::Surviving, ("g", "us-east", "us-west"), "D5"),
+];
+
+/// Carries out a statement.
+fn answer(alloc: Global, catalog: &mut Catalog, line: Line) -> Result<&'static str, Memory> {
+    let s = statement(alloc, line.0, line.1)?;
+    Ok(code(catalog.apply(&s)))
+}
+
+/// The first line that gets another code, if there is one.
+fn first_wrong(alloc: Global, catalog: &mut Catalog) -> Result<Option<usize>, Memory> {
+    for (i, line) in LINES.iter().enumerate() {
+        if answer(alloc, catalog, *line)? != line.2 {
+            return Ok(Some(i));
+        }
+    }
+    Ok(None)
+}
+
+/// Four regions of a cluster.
+fn four_names(
+    alloc: Global,
+    first: &str,
+    second: &str,
+    third: &str,
+    fourth: &str,
+) -> Result<ListOf<Bytes>, Memory>
+    ensures exact { IfOk result (λ l. l ≡ first.now ∷ second.now ∷ third.now ∷ fourth.now ∷ []) }
+    ensures utf8 { IfOk result (λ l. All IsUtf8 l) }
+{
+    let mut regions = ListOf::new(alloc);
+    regions.push(bytes(alloc, first)?)?;
+    regions.push(bytes(alloc, second)?)?;
+    regions.push(bytes(alloc, third)?)?;
+    regions.push(bytes(alloc, fourth)?)?;
+    Ok(regions)
+}
+
+/// A catalog over four regions.
+fn four_regions(alloc: Global) -> Result<Catalog, Memory> {
+    let regions = four_names(alloc, "us-east", "us-west", "eu-west", "asia")?;
+    Catalog::new(alloc, regions.as_slice())
+}
+
+#[test]
+fn each_statement_gets_its_code(rt: HostRuntime) -> Result<(), Fail> {
+    let alloc = rt.alloc();
+    let mut catalog = four_regions(alloc)?;
+    assert!(rt; first_wrong(alloc, &mut catalog)?.is_none());
+    let copy = catalog.clone_in(alloc)?;
+    assert!(rt; copy.table(b"q").is_none() && copy.database(b"d").is_some());
+    assert!(rt; copy.tables().len() == 3);
+    Ok(())
+}
