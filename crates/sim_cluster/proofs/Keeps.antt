@@ -54,11 +54,15 @@ pub begin_sound : (s : Settings) (physical : ℕ) (k : Reading) (count line expi
     → steps ≡ entry.Event line ∷ append_step 1 (log.Lease (first_lease expiration)) ∷ [] → new ≡ old ++ steps → IsSound s physical k count new
 begin_sound s physical k count line expiration old steps new sound e f =
     record {
-      durations = sound.durations; clock = sound.clock; kept = sound.kept; logical = sound.logical; attempts = sound.attempts;
+      durations = sound.durations;
+      clock = sound.clock;
+      kept = sound.kept;
+      logical = sound.logical;
+      attempts = sound.attempts;
       behind = subst (λ (xs : List JournalEntry). All (λ x. KeepsBehind k count x) xs) (sym f)
-        (All-append (λ x. KeepsBehind k count x) old steps sound.behind
+          (All-append (λ x. KeepsBehind k count x) old steps sound.behind
           (All-from_recursion (λ x. KeepsBehind k count x) steps
-            (subst (λ (xs : List JournalEntry). AllByRecursion (λ x. KeepsBehind k count x) xs) (sym e) (tt, (lowest_behind k count, tt)))));
+          (subst (λ (xs : List JournalEntry). AllByRecursion (λ x. KeepsBehind k count x) xs) (sym e) (tt, (lowest_behind k count, tt)))));
     }
 
 keeps_behind : (k : Reading) (count : ℕ) (k' : Reading) → ((k.wall < k'.wall) ⊎ ((k.wall ≡ k'.wall) × (k.logical < k'.logical))) → (x : JournalEntry) → KeepsBehind k count x → KeepsBehind k' (count + 1) x
@@ -92,7 +96,11 @@ transaction_sound s physical k count attempt line length b st old steps new soun
     let start_behind : IsBehind (next_of physical k) attempt b.start = rw (start, e) (record { wall = omega arith; logical = λ q. omega arith; small = n.small }) in
     let earlier : All (λ x. KeepsBehind (next_of physical k) attempt x) old = rw e (All-weaker (λ x. KeepsBehind k count x) (λ x. KeepsBehind (next_of physical k) (count + 1) x) (keeps_behind k count (next_of physical k) n.ahead) old sound.behind) in
     record {
-      durations = sound.durations; clock = sound.clock; kept = n.within; logical = rw e n.small; attempts = small;
+      durations = sound.durations;
+      clock = sound.clock;
+      kept = n.within;
+      logical = rw e n.small;
+      attempts = small;
       behind = subst (λ (xs : List JournalEntry). All (λ x. KeepsBehind (next_of physical k) attempt x) xs) (sym f)
-        (All-append (λ x. KeepsBehind (next_of physical k) attempt x) old steps earlier (made_behind (next_of physical k) attempt line b st length steps start_behind made));
+          (All-append (λ x. KeepsBehind (next_of physical k) attempt x) old steps earlier (made_behind (next_of physical k) attempt line b st length steps start_behind made));
     }

@@ -19,19 +19,19 @@ use Rattle.sim_cluster.specs.declared.transaction.Begun.{Begun}
 served_names : (line : ℕ) (b : Begun) (s : FirstStatement) (count : ℕ) (rest : List JournalEntry) → IsServed b s count rest → NamesOnly (λ t. t ≡ b.txn) (reverse (entry.Event line ∷ begin_step b ∷ rest))
 served_names line b (Insert n) count rest (true, due, e) =
     subst (λ (xs : List JournalEntry). NamesOnly (λ t. t ≡ b.txn) (reverse (entry.Event line ∷ begin_step b ∷ xs))) (sym e)
-        (λ t h. h, (λ t h. absurd h, (λ t h. h, (λ t h. absurd h, tt))))
+    (λ t h. h, (λ t h. absurd h, (λ t h. h, (λ t h. absurd h, tt))))
 served_names line b (Insert n) count rest (false, true, e) =
     subst (λ (xs : List JournalEntry). NamesOnly (λ t. t ≡ b.txn) (reverse (entry.Event line ∷ begin_step b ∷ xs))) (sym e)
-        (λ t h. h, (λ t h. absurd h, (λ t h. absurd h, (λ t h. absurd h, (λ t h. absurd h, (λ t h. h, (λ t h. absurd h, tt)))))))
+    (λ t h. h, (λ t h. absurd h, (λ t h. absurd h, (λ t h. absurd h, (λ t h. absurd h, (λ t h. h, (λ t h. absurd h, tt)))))))
 served_names line b (Insert n) count rest (false, false, e) =
     subst (λ (xs : List JournalEntry). NamesOnly (λ t. t ≡ b.txn) (reverse (entry.Event line ∷ begin_step b ∷ xs))) (sym e)
-        (λ t h. absurd h, (λ t h. absurd h, (λ t h. absurd h, (λ t h. absurd h, (λ t h. h, (λ t h. absurd h, tt))))))
+    (λ t h. absurd h, (λ t h. absurd h, (λ t h. absurd h, (λ t h. absurd h, (λ t h. h, (λ t h. absurd h, tt))))))
 served_names line b SelectAll count rest (ids, true, e) =
     subst (λ (xs : List JournalEntry). NamesOnly (λ t. t ≡ b.txn) (reverse (entry.Event line ∷ begin_step b ∷ xs))) (sym e)
-        (λ t h. h, (λ t h. absurd h, (λ t h. h, (λ t h. absurd h, tt))))
+    (λ t h. h, (λ t h. absurd h, (λ t h. h, (λ t h. absurd h, tt))))
 served_names line b SelectAll count rest (ids, false, e) =
     subst (λ (xs : List JournalEntry). NamesOnly (λ t. t ≡ b.txn) (reverse (entry.Event line ∷ begin_step b ∷ xs))) (sym e)
-        (λ t h. absurd h, (λ t h. h, (λ t h. absurd h, tt)))
+    (λ t h. absurd h, (λ t h. h, (λ t h. absurd h, tt)))
 
 pub made_names : (line : ℕ) (b : Begun) (s : FirstStatement) (count : ℕ) (steps : List JournalEntry) → AreSteps line b s count steps → NamesOnly (λ t. t ≡ b.txn) (reverse steps)
 made_names line b s count steps (inl e) =
@@ -55,10 +55,10 @@ served_behind k small line b SelectAll count rest h (ids, false, e) =
 pub made_behind : (k : Reading) (small : ℕ) (line : ℕ) (b : Begun) (s : FirstStatement) (count : ℕ) (steps : List JournalEntry) → IsBehind k small b.start → AreSteps line b s count steps → All (λ e. KeepsBehind k small e) steps
 made_behind k small line b s count steps h (inl e) =
     All-from_recursion (λ e. KeepsBehind k small e) steps
-        (subst (λ (xs : List JournalEntry). AllByRecursion (λ e. KeepsBehind k small e) xs) (sym e) (tt, (tt, (tt, tt))))
+    (subst (λ (xs : List JournalEntry). AllByRecursion (λ e. KeepsBehind k small e) xs) (sym e) (tt, (tt, (tt, tt))))
 made_behind k small line b s count steps h (inr (rest, served, e)) =
     All-from_recursion (λ e. KeepsBehind k small e) steps
-        (subst (λ (xs : List JournalEntry). AllByRecursion (λ e. KeepsBehind k small e) xs) (sym e) (served_behind k small line b s count rest h served))
+    (subst (λ (xs : List JournalEntry). AllByRecursion (λ e. KeepsBehind k small e) xs) (sym e) (served_behind k small line b s count rest h served))
 
 -- what isn't ahead of a clock isn't ahead of what it gives next
 pub behind_next : (k : Reading) (small : ℕ) (k' : Reading) → ((k.wall < k'.wall) ⊎ ((k.wall ≡ k'.wall) × (k.logical < k'.logical))) → (ts : Ts) → IsBehind k small ts → IsBehind k' (small + 1) ts

@@ -5,16 +5,14 @@ ghost use Rattle.scenario.specs.Lines.{IsTaken};
 ghost use Rattle.sim_cluster.specs.Bounds.{AreSettings};
 ghost use Rattle.sim_cluster.specs.Cluster.{IsStep, GoesOn, Continues};
 
-use std::alloc::Global;
-use std::marker::Model;
-
-use mr_base::{AttemptId, Memory, Settings, TxnId};
-use region_sql::{FirstStatement, first_statement};
-use scenario::{Event, Journal, JournalEntry};
-
 use crate::clock::Clock;
 use crate::steps::{begin_steps, transaction_steps};
 use crate::transaction::Begun;
+use mr_base::{AttemptId, Memory, Settings, TxnId};
+use region_sql::{FirstStatement, first_statement};
+use scenario::{Event, Journal, JournalEntry};
+use std::alloc::Global;
+use std::marker::Model;
 
 /// A cluster of one node with one range. Its journal is all that it keeps of its log.
 #[derive(Drop)]

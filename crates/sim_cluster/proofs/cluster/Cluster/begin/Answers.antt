@@ -11,4 +11,4 @@ invariant_of-self-2 c = begin_sound _ _ _ _ _ _ _ _ _ c.self.invariant c.in_ok-s
 pub returns-clause-ok : goal.returns-clause-ok
 returns-clause-ok c =
     rw (← c.self.view_is) (continues c.self.inside.settings c.self.inside.clock.physical (IsOf events.Begin) c.self.inside.journal.items c.in_ok-steps.steps.items c.append.new.self.items
-        c.in_ok-append.ensures.items (some_steps _ _ _ c.in_ok-steps.ensures) (begin_names _ _ (IsOf events.Begin) _ c.in_ok-steps.ensures))
+    c.in_ok-append.ensures.items (some_steps _ _ _ c.in_ok-steps.ensures) (begin_names _ _ (IsOf events.Begin) _ c.in_ok-steps.ensures))
