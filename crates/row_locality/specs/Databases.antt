@@ -1,4 +1,4 @@
-use Rattle.std.specs.Prelude.{◌≡◌, ℕ, ℤ, pos, negsuc, ◌<◌, ◌^◌, ◌<ℤ◌, ⊤, List, [], ◌∷◌, map}
+use Rattle.std.specs.Prelude.{◌≡◌, ℕ, ℤ, pos, negsuc, ◌<◌, ◌^◌, ◌<ℤ◌, ◌⊎◌, ⊤, List, [], ◌∷◌, map}
 use Rattle.mr_base.specs.declared.rows.Datum.{Datum}
 use Rattle.mr_base.specs.declared.rows.Datum.TheVariants as datums
 use Rattle.mr_base.specs.declared.spans.Pair.{Pair}
@@ -34,6 +34,11 @@ IsInt (negsuc n) = n < 2 ^ 63
 abbrev pub AreInts : List ℤ → Type 0
 AreInts [] = ⊤
 AreInts (n ∷ ns) = IsInt n × AreInts ns
+
+-- One of these is the id.
+abbrev pub HasId : ℤ → List ℤ → Type 0
+HasId n [] = ⊥
+HasId n (m ∷ ms) = (m ≡ n) ⊎ HasId n ms
 
 -- A database is valid: each row has one INT, and no two have the same.
 abbrev pub IsValid : Database → Type 0
