@@ -1,1 +1,12 @@
+pub mod BeginLemmas
 pub mod BoundsLemmas
+pub mod CourseLemmas
+pub mod FactLemmas
+pub mod JournalLemmas
+pub mod KnownLemmas
+pub mod LineLemmas
+pub mod LogLemmas
+pub mod ReadLemmas
+pub mod RowLemmas
+pub mod RunLemmas
+pub mod TxnLemmas

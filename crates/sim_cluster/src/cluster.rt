@@ -10,7 +10,7 @@ ghost use Rattle.run_laws.specs.Words.{the_node};
 ghost use Rattle.mr_base.specs.declared.settings.Kind.TheVariants as kinds;
 
 use crate::clock::Clock;
-use crate::courses::{Course, course_of};
+use crate::courses::course_of;
 use crate::range::Range;
 use crate::steps::{begin_steps, lease_until, transaction_steps};
 use crate::transaction::Begun;
@@ -146,10 +146,7 @@ impl Cluster {
             shows.reading(),
         )?;
         self.journal.reserve(steps.len())?;
-        if let Course::Inserts(n) = course {
-            self.range.ids.insert(n)?;
-            self.range.length += 3;
-        }
+        self.range.take_in(course)?;
         if self.journal.append(&mut steps).is_err() {
             unreachable!();
         }

@@ -1,9 +1,9 @@
 //! The one range, as its server keeps it.
 
-ghost use Rattle.std.specs.Prelude.{◌≡◌, [], None};
-ghost use Rattle.sim_cluster.specs.Kept.{nothing_kept};
+ghost use Rattle.std.specs.Prelude.{◌≡◌, ◌+◌, ◌<◌, ◌^◌, [], None, OnOk, OnErr};
 
-use mr_base::Ts;
+use crate::courses::Course;
+use mr_base::{Memory, Ts};
 use range_log::Lease;
 use std::alloc::Global;
 use std::collections::BTreeSet;
@@ -19,6 +19,9 @@ pub struct Range {
 }
 
 impl Range {
+    ghost use Rattle.sim_cluster.specs.Courses.{IsTakenIn};
+    ghost use Rattle.sim_cluster.specs.Kept.{nothing_kept};
+
     /// A range that isn't made yet.
     pub fn new(alloc: Global) -> Range
         ensures { (result.lease ≡ None) × (result.length ≡ 0) × (result.ids.keys ≡ []) × (result.floor ≡ nothing_kept) }
@@ -29,5 +32,18 @@ impl Range {
             ids: BTreeSet::new(alloc),
             floor: Ts::ZERO,
         }
+    }
+
+    /// Keeps what a transaction of this course adds. Unchanged after want of memory.
+    pub fn take_in(&mut self, course: Course) -> Result<(), Memory>
+        requires room { self.old.length + 3 < 2 ^ 64 }
+        ensures ok { OnOk result (IsTakenIn self.old course self.new) }
+        ensures err { OnErr result (self.new ≡ self.old) }
+    {
+        if let Course::Inserts(n) = course {
+            self.ids.insert(n)?;
+            self.length += 3;
+        }
+        Ok(())
     }
 }

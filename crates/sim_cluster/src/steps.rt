@@ -101,12 +101,7 @@ fn unserved(alloc: Global, begun: Begun) -> Result<Vec<JournalEntry>, Memory>
 }
 
 /// An INSERT of an id that is there: the row's point is served, and there is a duplicate.
-fn duplicated(
-    alloc: Global,
-    begun: Begun,
-    n: i64,
-    log: u64,
-) -> Result<Vec<JournalEntry>, Memory>
+fn duplicated(alloc: Global, begun: Begun, n: i64, log: u64) -> Result<Vec<JournalEntry>, Memory>
     ensures { IfOk result (λ v. v.items ≡ serve_step begun (point_of n) log ∷ duplicate begun ∷ []) }
 {
     let mut steps = Vec::new(alloc);

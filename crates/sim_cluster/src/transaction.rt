@@ -168,11 +168,7 @@ fn rows_of(alloc: Global, ids: &BTreeSet<i64>) -> Result<ListOf<ListOf<Datum>>, 
 }
 
 /// The acknowledgement of a SELECT of the rows with these ids.
-pub fn select_ack(
-    alloc: Global,
-    begun: Begun,
-    ids: &BTreeSet<i64>,
-) -> Result<JournalEntry, Memory>
+pub fn select_ack(alloc: Global, begun: Begun, ids: &BTreeSet<i64>) -> Result<JournalEntry, Memory>
     ensures { IfOk result (λ e. e ≡ ack_select begun ids.now.keys) }
 {
     let answer = StatementResult {

@@ -1,17 +1,43 @@
-use Rattle.std.proofs.Common.{rules, ◌≡◌, ◌<◌, ◌^◌, ◌++◌, [], reverse, OnOk, OnErr, ℕ, ◌+◌, ◌-◌, ◌*◌, ◌≤◌, length, ◌/◌, ◌%◌, Bool, true, false, nat_eq, nat_lt, List, ◌∷◌, slice_index_or, slice_set, bit_and, bit_or, Fits, w8, w32, w64, Bor, MutBor}
-use Rattle.run_laws.specs.LinesRun.{LinesRun, IsNextLine, no_lines, with_line}
-use Rattle.scenario.specs.Lines.{IsTaken}
-use Rattle.scenario.specs.declared.events.Event.{Event}
-use Rattle.sim_cluster.specs.Bounds.{AreSettings}
-use Rattle.sim_cluster.specs.Cluster.{IsStep, GoesOn, Continues, IsRunOf}
-use Rattle.run_laws.specs.Words.{the_node}
-use Rattle.mr_base.specs.declared.settings.Kind.TheVariants as kinds
+use Rattle.std.proofs.Common.{◌≡◌, refl, sym, ap, ap₂, ◌∙◌, subst, reverse, [], ℕ, ◌+◌}
+use Rattle.std.specs.Prelude.{List, Some}
+use Rattle.mr_base.specs.declared.timestamps.Reading.{Reading}
+use Rattle.run_laws.specs.LinesRun.{with_line}
+use Rattle.run_laws.specs.Runs.{IsRun}
+use Rattle.run_laws.specs.Words.{greatest_start}
+use Rattle.scenario.specs.declared.entries.JournalEntry.{JournalEntry}
+use Rattle.scenario.specs.declared.events.Event.TheVariants as events
+use Rattle.sim_cluster.proofs.BeginLemmas.{begin_journal, begun_journal, begin_run, begin_known}
+use Rattle.sim_cluster.specs.Clock.{reading_of}
+use Rattle.sim_cluster.specs.Kept.{IsKnown}
+use Rattle.sim_cluster.specs.declared.range.Range.{Range}
+use Rattle.sim_cluster.specs.View.{View}
 use Rattle.sim_cluster.proofs.cluster.Cluster.begin.Goals as goal
 
--- src/cluster.rt:102:5
 pub invariant_of-self-2 : goal.invariant_of-self-2
-invariant_of-self-2 c = ?
+invariant_of-self-2 c =
+    let empty : reverse c.self.inside.journal.items ≡ [] = ap (λ (v : View). v.journal) c.self.view_is ∙ c.requires in
+    let made : Range = record { lease = Some c.lease_until-lease.result; length = 1; ids = c.self.inside.range.ids; floor = c.self.inside.range.floor } in (
+      c.self.invariant.0,
+      subst (λ (j : List JournalEntry). IsKnown c.self.inside.clock.kept c.self.inside.attempts made j)
+          (sym (begun_journal c.args.line (c.reading.result.wall + c.self.inside.settings.lease) c.self.inside.journal.items c.in_ok-steps.steps.items c.append.new.self.items c.lease_until-lease.result
+          c.in_ok-append.ensures.items c.in_ok-steps.ensures c.lease_until-lease.ensures empty))
+          (begin_known c.self.inside.clock.kept c.self.inside.attempts c.args.line (c.reading.result.wall + c.self.inside.settings.lease) c.self.inside.range made (reverse c.self.inside.journal.items)
+          empty c.self.invariant.1 (ap Some c.lease_until-lease.ensures) refl refl refl),
+    )
 
--- src/cluster.rt:102:5
 pub returns-clause-run : goal.returns-clause-run
-returns-clause-run c = ?
+returns-clause-run c s r n =
+    let empty : reverse c.self.inside.journal.items ≡ [] = ap (λ (v : View). v.journal) c.self.view_is ∙ c.requires in
+    let kept : record { wall = 0; logical = 0 } ≡ c.self.inside.clock.kept = ap greatest_start (sym empty) ∙ c.self.invariant.1.starts in
+    let reads : c.reading.result ≡ reading_of s.clock (record { wall = 0; logical = 0 }) =
+    c.reading.ensures ∙ ap₂ reading_of (ap (λ (v : View). v.physical) c.self.view_is ∙ r.physical) (sym kept) in
+    let expires : c.reading.result.wall + c.self.inside.settings.lease ≡ (reading_of s.clock (record { wall = 0; logical = 0 })).wall + s.settings.lease =
+    ap₂ (λ (a : Reading) b. a.wall + b) reads (ap (λ (v : View). v.settings.lease) c.self.view_is ∙ ap (λ x. x.lease) r.settings) in
+    record {
+      settings = ap (λ (v : View). v.settings) c.self.view_is ∙ r.settings;
+      physical = ap (λ (v : View). v.physical) c.self.view_is ∙ r.physical;
+      run = subst (λ (j : List JournalEntry). IsRun (with_line s c.args.line events.Begin) j)
+          (sym (begun_journal c.args.line (c.reading.result.wall + c.self.inside.settings.lease) c.self.inside.journal.items c.in_ok-steps.steps.items c.append.new.self.items c.lease_until-lease.result
+          c.in_ok-append.ensures.items c.in_ok-steps.ensures c.lease_until-lease.ensures empty))
+          (begin_run s c.args.line (c.reading.result.wall + c.self.inside.settings.lease) (subst (λ (j : List JournalEntry). IsRun s j) c.requires r.run) expires);
+    }
