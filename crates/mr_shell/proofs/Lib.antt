@@ -1,1 +1,7 @@
+pub mod ContentLemmas
+pub mod EndLemmas
 pub mod Ready
+pub mod RunLemmas
+pub mod RunLines
+pub mod StopLemmas
+pub mod TextLemmas
