@@ -1,3 +1,1 @@
 pub mod BoundsLemmas
-pub mod Keeps
-pub mod MadeLemmas

@@ -1,11 +1,7 @@
-use Rattle.std.specs.Prelude.{◌≡◌, ℕ, ◌<◌, ◌≤◌, ◌^◌, ⊤, List, All}
-use Rattle.mr_base.specs.declared.messages.Fate.TheVariants as fates
+use Rattle.std.specs.Prelude.{◌≡◌, ◌⊎◌, ℕ, ◌<◌, ◌≤◌, ◌^◌}
 use Rattle.mr_base.specs.declared.settings.Settings.{Settings}
 use Rattle.mr_base.specs.declared.timestamps.Reading.{Reading}
 use Rattle.mr_base.specs.declared.timestamps.Ts.{Ts}
-use Rattle.range_log.specs.declared.entries.Entry.TheVariants as log
-use Rattle.scenario.specs.declared.entries.JournalEntry.{JournalEntry}
-use Rattle.scenario.specs.declared.entries.JournalEntry.TheVariants as entry
 
 -- A timestamp isn't ahead of a reading, and its logical part is small.
 pub record IsBehind (kept : Reading) (count : ℕ) (ts : Ts) : Type 0 where
@@ -13,13 +9,9 @@ pub record IsBehind (kept : Reading) (count : ℕ) (ts : Ts) : Type 0 where
   pub logical : ts.wall ≡ kept.wall → ts.logical ≤ kept.logical
   pub small : ts.logical ≤ count
 
--- No timestamp of an entry that a put may meet is ahead of a reading.
-abbrev pub KeepsBehind : Reading → ℕ → JournalEntry → Type 0
-KeepsBehind kept count (entry.Serve attempt node range span at limit length by fates) = IsBehind kept count at
-KeepsBehind kept count (entry.Append range index (log.Resolve attempt key (fates.Committed ts))) = IsBehind kept count ts
-KeepsBehind kept count (entry.Append range index (log.Close ts)) = IsBehind kept count ts
-KeepsBehind kept count (entry.Append range index (log.Lease lease)) = IsBehind kept count lease.low
-KeepsBehind kept count _ = ⊤
+-- A start is ahead of what the clock gave before.
+abbrev pub IsAhead : Reading → Ts → Type 0
+IsAhead kept start = (kept.wall < start.wall) ⊎ ((kept.wall ≡ start.wall) × (kept.logical < start.logical))
 
 -- Durations are at most an hour.
 pub record AreSettings (s : Settings) : Type 0 where
@@ -29,11 +21,10 @@ pub record AreSettings (s : Settings) : Type 0 where
   pub lead : s.lead ≤ 3600000
   pub expire : s.expire ≤ 3600000
 
--- What is true of a cluster's parts at all times: its bounds, and that its clock isn't behind what it gave.
-pub record IsSound (s : Settings) (physical : ℕ) (k : Reading) (count : ℕ) (journal : List JournalEntry) : Type 0 where
+-- What is true of a cluster's settings and clock at all times.
+pub record IsSound (s : Settings) (physical : ℕ) (k : Reading) (count : ℕ) : Type 0 where
   pub durations : AreSettings s
   pub clock : physical < 2 ^ 53
   pub kept : k.wall ≤ physical
   pub logical : k.logical ≤ count
   pub attempts : count < 2 ^ 32
-  pub behind : All (KeepsBehind k count) journal

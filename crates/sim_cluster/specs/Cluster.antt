@@ -1,16 +1,20 @@
 use Rattle.std.specs.Prelude.{◌≡◌, ◌≢◌, ℕ, List, [], ◌∷◌, ◌++◌}
 use Rattle.mr_base.specs.declared.ids.TxnId.{TxnId}
+use Rattle.mr_base.specs.declared.settings.Kind.TheVariants as kinds
+use Rattle.run_laws.specs.Words.{the_node}
 use Rattle.scenario.specs.Lines.{IsTaken}
 use Rattle.scenario.specs.Names.{NamesOnly}
 use Rattle.scenario.specs.declared.entries.JournalEntry.{JournalEntry}
 use Rattle.scenario.specs.declared.events.Event.{Event}
 use Rattle.scenario.specs.declared.events.Event.TheVariants as events
+use Rattle.run_laws.specs.LinesRun.{LinesRun}
+use Rattle.run_laws.specs.Runs.{IsRun}
 use Rattle.sim_cluster.specs.View.{View}
 
 -- The lines that the cluster takes: `begin` at first, and then transactions.
 abbrev pub IsStep : View → Event → Type 0
 IsStep c events.Begin = c.journal ≡ []
-IsStep c (events.Txn t gateway kind list) = (c.journal ≢ []) × IsTaken list
+IsStep c (events.Txn t gateway kind list) = (c.journal ≢ []) × (gateway ≡ the_node) × (kind ≡ kinds.Now) × IsTaken list
 IsStep c _ = ⊥
 
 -- The transaction whose line this is, if it is one.
@@ -30,3 +34,9 @@ pub record Continues (old : View) (P : TxnId → Type 0) (new : View) : Type 0 w
 -- The journal has the entries of a line besides, which name no other transaction than that of the line.
 abbrev pub GoesOn : View → Event → View → Type 0
 GoesOn old e new = Continues old (IsOf e) new
+
+-- The cluster has run these lines: its journal is a run of them.
+pub record IsRunOf (s : LinesRun) (c : View) : Type 0 where
+  pub settings : c.settings ≡ s.settings
+  pub physical : c.physical ≡ s.clock
+  pub run : IsRun s c.journal

@@ -1,9 +1,7 @@
-use Rattle.std.specs.Prelude.{ℕ, ℤ, ◌+◌, List, [], ◌∷◌, Some, length, map}
+use Rattle.std.specs.Prelude.{ℕ, ℤ, ◌+◌, List, [], ◌∷◌, ◌++◌, Some, length, map}
 use Rattle.mr_base.specs.declared.ids.NodeId.{NodeId}
 use Rattle.mr_base.specs.declared.ids.RangeId.{RangeId}
 use Rattle.mr_base.specs.declared.messages.Fate.TheVariants as fates
-use Rattle.mr_base.specs.declared.rows.Datum.{Datum}
-use Rattle.mr_base.specs.declared.rows.Datum.TheVariants as datums
 use Rattle.mr_base.specs.declared.spans.Span.{Span}
 use Rattle.mr_base.specs.declared.states.SqlState.TheVariants as states
 use Rattle.mr_base.specs.declared.timestamps.Ts.{Ts}
@@ -11,13 +9,16 @@ use Rattle.range_log.specs.declared.entries.Entry.{Entry}
 use Rattle.range_log.specs.declared.entries.Entry.TheVariants as log
 use Rattle.range_log.specs.declared.entries.Lease.{Lease}
 use Rattle.range_log.specs.declared.entries.TxnState.TheVariants as records
-use Rattle.row_locality.specs.IntRows.{int_key, int_value}
+use Rattle.row_locality.specs.Databases.{row_with}
+use Rattle.row_locality.specs.IntRows.{int_key, int_value, point_of, the_primary_keys}
 use Rattle.scenario.specs.declared.entries.How.TheVariants as how
 use Rattle.scenario.specs.declared.entries.JournalEntry.{JournalEntry}
 use Rattle.scenario.specs.declared.entries.JournalEntry.TheVariants as entry
 use Rattle.scenario.specs.declared.entries.StatementResult.{StatementResult}
 use Rattle.scenario.specs.declared.entries.Verb.TheVariants as verb
 use Rattle.scenario.specs.declared.entries.Why.TheVariants as why
+use Rattle.sim_cluster.specs.declared.courses.Course.{Course}
+use Rattle.sim_cluster.specs.declared.courses.Course.TheVariants as courses
 use Rattle.sim_cluster.specs.declared.transaction.Begun.{Begun}
 
 abbrev pub node : NodeId
@@ -42,14 +43,11 @@ insert_steps b n count at =
     ∷ append_step (count + 2) (log.State b.attempt (records.Committed at))
     ∷ append_step (count + 3) (log.Resolve b.attempt (int_key n) (fates.Committed at)) ∷ []
 
-abbrev pub int_datums : ℤ → List Datum
-int_datums n = datums.Int n ∷ []
-
 abbrev pub ack_insert : Begun → Ts → JournalEntry
 ack_insert b at = entry.Ack b.txn at (record { verb = verb.Insert; count = 1; rows = [] } ∷ [])
 
 abbrev pub ack_select : Begun → List ℤ → JournalEntry
-ack_select b ids = entry.Ack b.txn b.start (record { verb = verb.Select; count = length ids; rows = map int_datums ids } ∷ [])
+ack_select b ids = entry.Ack b.txn b.start (record { verb = verb.Select; count = length ids; rows = map row_with ids } ∷ [])
 
 abbrev pub duplicate : Begun → JournalEntry
 duplicate b = entry.Fault b.txn b.start states.S23505
@@ -59,3 +57,16 @@ no_lease b = entry.Refuse b.txn (why.NoLease range)
 
 abbrev pub first_lease : ℕ → Lease
 first_lease expiration = record { seq = 1; holder = node; boot = 1; expiration = expiration; low = record { wall = 0; logical = 0; owner = 0 } }
+
+-- The entries of a transaction behind its beginning, where the log has so many entries and the rows these
+-- ids.
+abbrev pub course_steps : Begun → Course → ℕ → List ℤ → List JournalEntry
+course_steps b courses.Unserved count ids = no_lease b ∷ []
+course_steps b (courses.Duplicate n) count ids = serve_step b (point_of n) count ∷ duplicate b ∷ []
+course_steps b (courses.Inserts n) count ids =
+    serve_step b (point_of n) count ∷ (insert_steps b n count b.start ++ ack_insert b b.start ∷ [])
+course_steps b courses.Selects count ids = serve_step b the_primary_keys count ∷ ack_select b ids ∷ []
+
+-- The entries of a transaction's line.
+abbrev pub line_steps : ℕ → Begun → Course → ℕ → List ℤ → List JournalEntry
+line_steps line b course count ids = entry.Event line ∷ begin_step b ∷ course_steps b course count ids

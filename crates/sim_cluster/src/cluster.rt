@@ -1,12 +1,18 @@
 //! The cluster and its journal.
 
 ghost use Rattle.std.specs.Prelude.{◌≡◌, ◌<◌, ◌^◌, ◌++◌, [], reverse, OnOk, OnErr};
+ghost use Rattle.run_laws.specs.LinesRun.{LinesRun, IsNextLine, no_lines, with_line};
 ghost use Rattle.scenario.specs.Lines.{IsTaken};
+ghost use Rattle.scenario.specs.declared.events.Event.{Event};
 ghost use Rattle.sim_cluster.specs.Bounds.{AreSettings};
-ghost use Rattle.sim_cluster.specs.Cluster.{IsStep, GoesOn, Continues};
+ghost use Rattle.sim_cluster.specs.Cluster.{IsStep, GoesOn, Continues, IsRunOf};
+ghost use Rattle.run_laws.specs.Words.{the_node};
+ghost use Rattle.mr_base.specs.declared.settings.Kind.TheVariants as kinds;
 
 use crate::clock::Clock;
-use crate::steps::{begin_steps, transaction_steps};
+use crate::courses::{Course, course_of};
+use crate::range::Range;
+use crate::steps::{begin_steps, lease_until, transaction_steps};
 use crate::transaction::Begun;
 use mr_base::{AttemptId, Memory, Settings, TxnId};
 use region_sql::{FirstStatement, first_statement};
@@ -14,26 +20,28 @@ use scenario::{Event, Journal, JournalEntry};
 use std::alloc::Global;
 use std::marker::Model;
 
-/// A cluster of one node with one range. Its journal is all that it keeps of its log.
+/// A cluster of one node with one range.
 #[derive(Drop)]
 pub struct Cluster {
     alloc: Global,
     settings: Settings,
     clock: Clock,
     attempts: u32,
+    range: Range,
     journal: Vec<JournalEntry>,
 }
 
 impl Model for Cluster {
     ghost use Rattle.std.specs.Prelude.{reverse};
     ghost use Rattle.sim_cluster.specs.Bounds.{IsSound};
+    ghost use Rattle.sim_cluster.specs.Kept.{IsKnown};
     ghost use Rattle.sim_cluster.specs.View.{View};
 
     ghost Value = { View };
 
     ghost view = { λ c. record { settings = c.settings; physical = c.clock.physical; journal = reverse c.journal.items } };
 
-    ghost invariant = { λ c. IsSound c.settings c.clock.physical c.clock.kept c.attempts c.journal.items };
+    ghost invariant = { λ c. IsSound c.settings c.clock.physical c.clock.kept c.attempts × IsKnown c.clock.kept c.attempts c.range (reverse c.journal.items) };
 }
 
 impl Cluster {
@@ -41,13 +49,15 @@ impl Cluster {
     pub fn new(alloc: Global, settings: Settings, clock: u64) -> Cluster
         requires settings { AreSettings settings }
         requires clock { clock < 2 ^ 53 }
-        ensures { result ≡ record { settings = settings; physical = clock; journal = [] } }
+        ensures made { result ≡ record { settings = settings; physical = clock; journal = [] } }
+        ensures run { IsRunOf (no_lines settings clock) result }
     {
         Cluster {
             alloc,
             settings,
             clock: Clock::new(clock),
             attempts: 0,
+            range: Range::new(alloc),
             journal: Vec::new(alloc),
         }
     }
@@ -68,6 +78,7 @@ impl Cluster {
             settings: _,
             clock: _,
             attempts: _,
+            range: _,
             journal,
         } = self;
         Journal::of_parts(before, journal)
@@ -76,6 +87,8 @@ impl Cluster {
     /// Makes the entries of a line, after those made so far. Want of memory leaves the cluster as it was.
     pub fn step(&mut self, line: u32, e: &Event) -> Result<(), Memory>
         requires { IsStep self.old e.now }
+        // Where the cluster has run some lines and this may be the next, it has run it too.
+        ensures run { OnOk result ((s : LinesRun) → IsRunOf s self.old → IsNextLine s line e.now → IsRunOf (with_line s line e.now) self.new) }
         ensures ok { OnOk result (GoesOn self.old e.now self.new) }
         ensures err { OnErr result (self.new ≡ self.old) }
     {
@@ -87,17 +100,22 @@ impl Cluster {
     }
 
     fn begin(&mut self, line: u32) -> Result<(), Memory>
+        requires { IsStep self.old Event.Begin }
+        ensures run { OnOk result ((s : LinesRun) → IsRunOf s self.old → IsNextLine s line Event.Begin → IsRunOf (with_line s line Event.Begin) self.new) }
         ensures ok { OnOk result (GoesOn self.old Event.Begin self.new) }
         ensures err { OnErr result (self.new ≡ self.old) }
     {
-        let expiration = self.clock.reading().wall + self.settings.lease;
-        let mut steps = begin_steps(self.alloc, line, expiration)?;
+        let lease = lease_until(self.clock.reading().wall + self.settings.lease);
+        let mut steps = begin_steps(self.alloc, line, lease)?;
         self.journal.append(&mut steps)?;
+        self.range.lease = Some(lease);
+        self.range.length = 1;
         Ok(())
     }
 
     fn transaction(&mut self, line: u32, txn: TxnId, list: &[u8]) -> Result<(), Memory>
-        requires { IsTaken list.now }
+        requires { IsStep self.old (Event.Txn txn the_node kinds.Now list.now) }
+        ensures run { OnOk result ((s : LinesRun) → IsRunOf s self.old → IsNextLine s line (Event.Txn txn the_node kinds.Now list.now) → IsRunOf (with_line s line (Event.Txn txn the_node kinds.Now list.now)) self.new) }
         ensures ok { OnOk result (Continues self.old (λ t. t ≡ txn) self.new) }
         ensures err { OnErr result (self.new ≡ self.old) }
     {
@@ -114,17 +132,28 @@ impl Cluster {
             start: start.owned_by(attempt),
             limit: start.wall + self.settings.max_offset,
         };
-        let journal = self.journal.as_slice();
+        let course = course_of(&self.range, begun, statement);
+        let shows = Clock {
+            kept: start,
+            ..self.clock
+        };
         let mut steps = transaction_steps(
             self.alloc,
-            journal,
+            &self.range,
             line,
             begun,
-            statement,
-            self.clock,
-            self.attempts,
+            course,
+            shows.reading(),
         )?;
-        self.journal.append(&mut steps)?;
+        self.journal.reserve(steps.len())?;
+        if let Course::Inserts(n) = course {
+            self.range.ids.insert(n)?;
+            self.range.length += 3;
+        }
+        if self.journal.append(&mut steps).is_err() {
+            unreachable!();
+        }
+        self.range.floor = begun.start;
         self.clock.kept = start;
         self.attempts = attempt;
         Ok(())

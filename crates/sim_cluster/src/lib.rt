@@ -3,8 +3,9 @@
 
 mod clock;
 mod cluster;
+mod courses;
 mod laying;
-mod reading;
+mod range;
 mod steps;
 mod transaction;
 

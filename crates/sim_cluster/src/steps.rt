@@ -1,170 +1,161 @@
-//! The entries that a line makes, given the journal before it.
+//! The entries that a line makes.
 
-ghost use Rattle.std.specs.Prelude.{◌≡◌, ◌+◌, ◌<◌, ◌≤◌, ◌^◌, ◌∷◌, [], ℕ, List, All, IfOk, reverse};
-ghost use Rattle.mr_base.specs.declared.timestamps.Reading.{Reading};
-ghost use Rattle.sim_cluster.specs.Bounds.{IsBehind, KeepsBehind};
-ghost use Rattle.sim_cluster.specs.Made.{AreSteps, IsServed, IsAhead};
-ghost use Rattle.region_sql.specs.declared.first_forms.FirstStatement.TheVariants as statements;
+ghost use Rattle.std.specs.Prelude.{◌≡◌, ◌+◌, ◌<◌, ◌≤◌, ◌^◌, ◌∷◌, [], IfOk, false};
+ghost use Rattle.mr_base.specs.Timestamps.{ts_lt};
+ghost use Rattle.range_log.specs.declared.entries.Entry.TheVariants as log;
 ghost use Rattle.scenario.specs.declared.entries.JournalEntry.{JournalEntry};
-ghost use Rattle.sim_cluster.specs.Steps.{append_step, first_lease};
+ghost use Rattle.sim_cluster.specs.Steps.{append_step, first_lease, course_steps, line_steps, insert_steps, serve_step, ack_insert, ack_select, duplicate};
+ghost use Rattle.row_locality.specs.IntRows.{point_of, the_primary_keys};
 
-use crate::clock::Clock;
+use crate::courses::Course;
 use crate::laying::{has_passed, laid_at};
-use crate::reading::{floor, ids_below, is_held, last_lease, log_length};
+use crate::range::Range;
 use crate::transaction::{
-    Begun, NODE, append_entry, begin_entry, duplicate_entry, insert_ack, insert_entries,
+    BOOT, Begun, NODE, append_entry, begin_entry, duplicate_entry, insert_ack, insert_entries,
     no_lease_entry, select_ack, serve_entry,
 };
-use closed_ts::by_lease;
-use mr_base::{Memory, NodeId, Reading, Ts};
+use mr_base::{Memory, Reading, Ts};
 use range_log::{Entry, Lease};
-use region_sql::FirstStatement;
 use row_locality::{all_rows, int_point};
 use scenario::JournalEntry;
 use std::alloc::Global;
 
-/// The boot of a node that never stopped.
-const BOOT: u32 = 1;
-
-/// The entries of `begin`: the range's first lease.
-pub fn begin_steps(alloc: Global, line: u32, expiration: u64) -> Result<Vec<JournalEntry>, Memory>
-    ensures { IfOk result (λ v. v.items ≡ JournalEntry.Event line ∷ append_step 1 (Entry.Lease (first_lease expiration)) ∷ []) }
+/// The first lease of the range, up to this wall.
+pub fn lease_until(expiration: u64) -> Lease
+    ensures { result ≡ first_lease expiration }
 {
-    let lease = Lease {
+    Lease {
         seq: 1,
         holder: NODE,
         boot: BOOT,
         expiration,
         low: Ts::ZERO,
-    };
+    }
+}
+
+/// The entries of `begin`: the range's first lease.
+pub fn begin_steps(alloc: Global, line: u32, lease: Lease) -> Result<Vec<JournalEntry>, Memory>
+    ensures { IfOk result (λ v. v.items ≡ JournalEntry.Event line ∷ append_step 1 (log.Lease lease) ∷ []) }
+{
     let mut steps = Vec::new(alloc);
     steps.push(JournalEntry::Event { line })?;
     steps.push(append_entry(1, Entry::Lease(lease)))?;
     Ok(steps)
 }
 
-/// Whether the node may serve the transaction's reads.
-fn may_serve(journal: &[JournalEntry], begun: Begun) -> bool {
-    match last_lease(journal) {
-        None => false,
-        Some(lease) => by_lease(&lease, NODE, BOOT, begun.start, Some(begun.limit)),
-    }
-}
-
-/// What the clock shows once the transaction began.
-fn clock_after(before: Clock, begun: Begun) -> Reading {
-    let kept = Reading {
-        wall: begun.start.wall,
-        logical: begun.start.logical,
-    };
-    Clock { kept, ..before }.reading()
-}
-
-/// The entries of the line of a transaction.
+/// The entries of a transaction's line, where the clock shows this once the transaction began.
 pub fn transaction_steps(
     alloc: Global,
-    journal: &[JournalEntry],
+    range: &Range,
     line: u32,
     begun: Begun,
-    statement: FirstStatement,
-    before: Clock,
-    count: u32,
+    course: Course,
+    clock: Reading,
 ) -> Result<Vec<JournalEntry>, Memory>
-    requires behind { All (KeepsBehind before.kept count) journal.now }
-    requires ahead { IsAhead before.kept begun.start }
-    ensures { IfOk result (λ v. (log : ℕ) × AreSteps line begun statement log v.items) }
+    requires room { range.now.length + 3 < 2 ^ 64 }
+    requires logical { range.now.floor.logical + 1 < 2 ^ 64 }
+    requires above { ts_lt begun.start range.now.floor ≡ false }
+    requires passed { begun.start.wall ≤ clock.wall }
+    ensures { IfOk result (λ v. v.items ≡ line_steps line begun course range.now.length range.now.ids.keys) }
 {
     let mut steps = Vec::new(alloc);
     steps.push(JournalEntry::Event { line })?;
     steps.push(begin_entry(begun))?;
-    if !may_serve(journal, begun) {
-        steps.push(no_lease_entry(begun))?;
-        return Ok(steps);
-    }
-    let mut served = serve(alloc, journal, begun, statement, before, count)?;
-    steps.append(&mut served)?;
+    let mut rest = steps_of_course(alloc, range, begun, course, clock)?;
+    steps.append(&mut rest)?;
     Ok(steps)
 }
 
-/// Where the transaction's put is laid: at its start, since nothing that stands in its way is ahead of the
-/// clock that gave the start.
-fn lay(begun: Begun, floor: Ts, before: Clock, count: u32) -> Ts
-    requires behind { IsBehind before.kept count floor }
-    requires ahead { IsAhead before.kept begun.start }
-    ensures { result ≡ begun.start }
-{
-    laid_at(begun.start, floor, begun.attempt)
-}
-
-/// The entries of a transaction that may be served.
-fn serve(
+/// The entries of a transaction behind its beginning.
+fn steps_of_course(
     alloc: Global,
-    journal: &[JournalEntry],
+    range: &Range,
     begun: Begun,
-    statement: FirstStatement,
-    before: Clock,
-    count: u32,
+    course: Course,
+    clock: Reading,
 ) -> Result<Vec<JournalEntry>, Memory>
-    requires behind { All (KeepsBehind before.kept count) journal.now }
-    requires ahead { IsAhead before.kept begun.start }
-    ensures { IfOk result (λ v. (log : ℕ) × IsServed begun statement log v.items) }
+    requires room { range.now.length + 3 < 2 ^ 64 }
+    requires logical { range.now.floor.logical + 1 < 2 ^ 64 }
+    requires above { ts_lt begun.start range.now.floor ≡ false }
+    requires passed { begun.start.wall ≤ clock.wall }
+    ensures { IfOk result (λ v. v.items ≡ course_steps begun course range.now.length range.now.ids.keys) }
 {
-    match &statement {
-        FirstStatement::Insert(n) => insert(alloc, journal, begun, *n, before, count),
-        FirstStatement::SelectAll => select(alloc, journal, begun, before),
+    match course {
+        Course::Unserved => unserved(alloc, begun),
+        Course::Duplicate(n) => duplicated(alloc, begun, n, range.length),
+        Course::Inserts(n) => {
+            let at = laid_at(begun.start, range.floor, begun.attempt);
+            inserted(alloc, begun, n, range.length, at, clock)
+        }
+        Course::Selects => selected(alloc, range, begun, clock),
     }
 }
 
-/// The entries of an INSERT: the row's point is served, and then the row is laid, committed and resolved,
-/// or there is a duplicate.
-fn insert(
+/// The refusal of a transaction that isn't served.
+fn unserved(alloc: Global, begun: Begun) -> Result<Vec<JournalEntry>, Memory>
+    ensures { IfOk result (λ v. v.items ≡ course_steps begun Course.Unserved 0 []) }
+{
+    let mut steps = Vec::new(alloc);
+    steps.push(no_lease_entry(begun))?;
+    Ok(steps)
+}
+
+/// An INSERT of an id that is there: the row's point is served, and there is a duplicate.
+fn duplicated(
     alloc: Global,
-    journal: &[JournalEntry],
     begun: Begun,
     n: i64,
-    before: Clock,
-    count: u32,
+    log: u64,
 ) -> Result<Vec<JournalEntry>, Memory>
-    requires behind { All (KeepsBehind before.kept count) journal.now }
-    requires ahead { IsAhead before.kept begun.start }
-    ensures { IfOk result (λ v. (log : ℕ) × IsServed begun (FirstStatement.Insert n) log v.items) }
+    ensures { IfOk result (λ v. v.items ≡ serve_step begun (point_of n) log ∷ duplicate begun ∷ []) }
 {
-    let span = int_point(alloc, n)?;
-    let log = log_length(journal);
-    let held = is_held(journal, span.lo.as_slice(), begun.start);
-    let floor = floor(journal, span.lo.as_slice(), begun.attempt);
     let mut steps = Vec::new(alloc);
-    steps.push(serve_entry(alloc, begun, span, log))?;
-    if held {
-        steps.push(duplicate_entry(begun))?;
-        return Ok(steps);
+    steps.push(serve_entry(alloc, begun, int_point(alloc, n)?, log))?;
+    steps.push(duplicate_entry(begun))?;
+    Ok(steps)
+}
+
+/// An INSERT: the row's point is served, then the row is laid, committed and resolved, and acknowledged.
+/// No answer waits, since no timestamp is ahead of the clock.
+fn inserted(
+    alloc: Global,
+    begun: Begun,
+    n: i64,
+    log: u64,
+    at: Ts,
+    clock: Reading,
+) -> Result<Vec<JournalEntry>, Memory>
+    requires room { log + 3 < 2 ^ 64 }
+    requires at { at ≡ begun.start }
+    requires passed { begun.start.wall ≤ clock.wall }
+    ensures { IfOk result (λ v. v.items ≡ course_steps begun (Course.Inserts n) log []) }
+{
+    if !has_passed(clock, at) {
+        unreachable!();
     }
-    let at = lay(begun, floor, before, count);
+    let mut steps = Vec::new(alloc);
+    steps.push(serve_entry(alloc, begun, int_point(alloc, n)?, log))?;
     let mut laid = insert_entries(alloc, begun, n, log, at)?;
     steps.append(&mut laid)?;
-    if !has_passed(clock_after(before, begun), at) {
-        return Ok(steps);
-    }
     steps.push(insert_ack(alloc, begun, at)?)?;
     Ok(steps)
 }
 
-/// The entries of a SELECT: all rows are served.
-fn select(
+/// A SELECT: all rows are served, and acknowledged.
+fn selected(
     alloc: Global,
-    journal: &[JournalEntry],
+    range: &Range,
     begun: Begun,
-    before: Clock,
+    clock: Reading,
 ) -> Result<Vec<JournalEntry>, Memory>
-    ensures { IfOk result (λ v. (log : ℕ) × IsServed begun FirstStatement.SelectAll log v.items) }
+    requires passed { begun.start.wall ≤ clock.wall }
+    ensures { IfOk result (λ v. v.items ≡ serve_step begun the_primary_keys range.now.length ∷ ack_select begun range.now.ids.keys ∷ []) }
 {
-    let log = log_length(journal);
-    let ids = ids_below(alloc, journal, begun.start)?;
-    let mut steps = Vec::new(alloc);
-    steps.push(serve_entry(alloc, begun, all_rows(alloc)?, log))?;
-    if !has_passed(clock_after(before, begun), begun.start) {
-        return Ok(steps);
+    if !has_passed(clock, begun.start) {
+        unreachable!();
     }
-    steps.push(select_ack(alloc, begun, ids.as_slice())?)?;
+    let mut steps = Vec::new(alloc);
+    steps.push(serve_entry(alloc, begun, all_rows(alloc)?, range.length))?;
+    steps.push(select_ack(alloc, begun, &range.ids)?)?;
     Ok(steps)
 }

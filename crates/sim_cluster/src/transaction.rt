@@ -1,7 +1,8 @@
 //! The steps of a transaction on the one node, as the entries that they make.
 
 ghost use Rattle.std.specs.Prelude.{◌≡◌, ◌+◌, ◌<◌, ◌^◌, ◌∷◌, [], IfOk, Some, vec_len, map};
-ghost use Rattle.sim_cluster.specs.Steps.{begin_step, serve_step, insert_steps, ack_insert, ack_select, duplicate, no_lease, int_datums};
+ghost use Rattle.sim_cluster.specs.Steps.{begin_step, serve_step, insert_steps, ack_insert, ack_select, duplicate, no_lease};
+ghost use Rattle.row_locality.specs.Databases.{row_with};
 
 use mr_base::{
     AttemptId, CloneIn, Datum, Fate, ListOf, Memory, NodeId, Pair, RangeId, Span, SqlState, Ts,
@@ -11,11 +12,15 @@ use range_log::{Entry, TxnState};
 use row_locality::int_row;
 use scenario::{How, JournalEntry, StatementResult, Verb, Why};
 use std::alloc::Global;
+use std::collections::BTreeSet;
 
 /// The one node and the one range.
 pub const NODE: NodeId = NodeId(1);
 
 pub const RANGE: RangeId = RangeId(1);
+
+/// The boot of a node that never stopped.
+pub const BOOT: u32 = 1;
 
 /// A transaction that began: its first attempt, its start, and the wall up to which a version above the
 /// start counts as uncertain.
@@ -150,11 +155,11 @@ pub fn insert_ack(alloc: Global, begun: Begun, at: Ts) -> Result<JournalEntry, M
 }
 
 /// A row for each id.
-fn rows_of(alloc: Global, ids: &[i64]) -> Result<ListOf<ListOf<Datum>>, Memory>
-    ensures { IfOk result (λ rows. rows ≡ map int_datums ids.now) }
+fn rows_of(alloc: Global, ids: &BTreeSet<i64>) -> Result<ListOf<ListOf<Datum>>, Memory>
+    ensures { IfOk result (λ rows. rows ≡ map row_with ids.now.keys) }
 {
     let mut rows = Vec::new(alloc);
-    for id in ids {
+    for id in ids.iter() {
         let mut row = ListOf::new(alloc);
         row.push(Datum::Int(*id))?;
         rows.push(row)?;
@@ -163,8 +168,12 @@ fn rows_of(alloc: Global, ids: &[i64]) -> Result<ListOf<ListOf<Datum>>, Memory>
 }
 
 /// The acknowledgement of a SELECT of the rows with these ids.
-pub fn select_ack(alloc: Global, begun: Begun, ids: &[i64]) -> Result<JournalEntry, Memory>
-    ensures { IfOk result (λ e. e ≡ ack_select begun ids.now) }
+pub fn select_ack(
+    alloc: Global,
+    begun: Begun,
+    ids: &BTreeSet<i64>,
+) -> Result<JournalEntry, Memory>
+    ensures { IfOk result (λ e. e ≡ ack_select begun ids.now.keys) }
 {
     let answer = StatementResult {
         verb: Verb::Select,

@@ -1,0 +1,2 @@
+//! What a read of a range's log gives.
+#![tactic(auto)]

@@ -1,0 +1,16 @@
+pub mod Appended
+pub mod Begun
+pub mod Caused
+pub mod Determined
+pub mod Laid
+pub mod Lawful
+pub mod LinesRun
+pub mod Order
+pub mod Records
+pub mod Runs
+pub mod Served
+pub mod Settled
+pub mod Steps
+pub mod Waited
+pub mod Whole
+pub mod Words
