@@ -1,5 +1,6 @@
 pub mod ContentLemmas
 pub mod EndLemmas
+pub mod NextLine
 pub mod Ready
 pub mod RunLemmas
 pub mod RunLines

@@ -42,5 +42,5 @@ may_run settings seen cluster line (lines.Sql text) seen' ready h =
 may_run settings seen cluster line (lines.Event events.Begin) seen' ready h =
     (ready.durations, ready.unbegun (λ q. let p = h.0 in cc), ap (λ (s : Seen). s.expected) h.2)
 may_run settings seen cluster line (lines.Event (events.Txn t g k list)) seen' ready h =
-    (ready.durations, (ready.begun h.0, h.7), ap (λ (s : Seen). s.expected) h.8 ∙ h.0)
+    (ready.durations, (ready.begun h.0, h.2, h.3, h.7), ap (λ (s : Seen). s.expected) h.8 ∙ h.0)
 may_run settings seen cluster line (lines.Event _) seen' ready h = absurd h

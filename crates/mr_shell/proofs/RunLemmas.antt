@@ -19,12 +19,13 @@ use Rattle.scenario.specs.declared.lines.Line.TheVariants as lines
 use Rattle.scenario.specs.declared.lines.Mode.TheVariants as mode
 use Rattle.scenario.proofs.MoreNames.{texts-more}
 use Rattle.scenario.proofs.NamesOnly.{NamesOnly-append, NamesOnly-reverse, NamesOnly-weaker}
-use Rattle.sim_cluster.specs.Cluster.{GoesOn, IsOf}
+use Rattle.sim_cluster.specs.Cluster.{GoesOn, IsOf, IsRunOf}
 use Rattle.sim_cluster.specs.View.{View}
 use Rattle.mr_base.specs.declared.settings.Settings.{Settings}
 use Rattle.mr_shell.specs.Run.{AreRun, RunsLine, ShowsAll, ShowsEntries, ShowsPart, report_of}
 use Rattle.mr_shell.specs.Session.{Follows}
-use Rattle.mr_shell.specs.Story.{LinesRun, Story, Tells, run_with, with_line}
+use Rattle.run_laws.specs.LinesRun.{LinesRun, with_line}
+use Rattle.mr_shell.specs.Story.{Story, Tells, run_with}
 use Rattle.mr_shell.specs.Texts.{texts, journal_text, Wrote}
 
 -- what was written in two pieces
@@ -79,11 +80,12 @@ within_more : (names more : List (List ℕ)) (t : TxnId) → t.0 < length names 
 within_more names more t h = omega (arith, h, length-append names more)
 
 -- a line that makes no entry
-pub follows_names : (story : Story) (settings : Settings) (cluster : View) (start written : Option (List ℕ)) (text : List ℕ) (line : Line) (seen : Seen) (run : LinesRun) → Reads story.seen text line seen → settings ≡ run.settings → Follows story settings cluster start written → Follows (record { seen = seen; run = run }) settings cluster start written
-follows_names story settings cluster start written text line seen run read made f =
+pub follows_names : (story : Story) (settings : Settings) (cluster : View) (start written : Option (List ℕ)) (text : List ℕ) (line : Line) (seen : Seen) → Reads story.seen text line seen → Follows story settings cluster start written → Follows (record { seen = seen; run = story.run }) settings cluster start written
+follows_names story settings cluster start written text line seen read f =
     let n = names_stay story.seen text line seen read in
     record {
-      made = made;
+      made = f.made;
+      run = f.run;
       names = subst (λ (names : List (List ℕ)). NamesOnly (λ t. t.0 < length names) cluster.journal) (sym n.1) (NamesOnly-weaker (λ t. t.0 < length story.seen.names) (λ t. t.0 < length (story.seen.names ++ n.0)) (within_more story.seen.names n.0) cluster.journal f.names);
       text = f.text ∙ ap (append_known start) (sym (ap (λ (names : List (List ℕ)). journal_text names cluster.journal) n.1 ∙ journal_text-more story.seen.names n.0 cluster.journal f.names));
     }
@@ -91,14 +93,15 @@ follows_names story settings cluster start written text line seen run read made 
 -- a line's entries behind the text of those that were there
 pub wrote_entries : (story : Story) (settings : Settings) (cluster : View) (start mid written : Option (List ℕ)) (text : List ℕ) (line : Line) (seen : Seen) (more : List ℕ) → Reads story.seen text line seen → Follows story settings cluster start mid → Wrote mid written more → Wrote start written (journal_text seen.names cluster.journal ++ more)
 wrote_entries story settings cluster start mid written text line seen more read f w =
-    wrote-more start mid written (journal_text seen.names cluster.journal) more (follows_names story settings cluster start mid text line seen story.run read f.made f).text w
+    wrote-more start mid written (journal_text seen.names cluster.journal) more (follows_names story settings cluster start mid text line seen read f).text w
 
 -- a line from `begin` on whose entries were all written
-pub follows_event : (story : Story) (settings : Settings) (old new : View) (start mid written : Option (List ℕ)) (text : List ℕ) (number : ℕ) (e : Event) (seen : Seen) → Reads story.seen text (lines.Event e) seen → Follows story settings old start mid → (goes : GoesOn old e new) → Wrote mid written (journal_text seen.names goes.fresh) → Follows (record { seen = seen; run = with_line story.run number e }) settings new start written
-follows_event story settings old new start mid written text number e seen read f goes w =
-    let kept = follows_names story settings old start mid text (lines.Event e) seen story.run read f.made f in
+pub follows_event : (story : Story) (settings : Settings) (old new : View) (start mid written : Option (List ℕ)) (text : List ℕ) (number : ℕ) (e : Event) (seen : Seen) → IsRunOf (with_line story.run number e) new → Reads story.seen text (lines.Event e) seen → Follows story settings old start mid → (goes : GoesOn old e new) → Wrote mid written (journal_text seen.names goes.fresh) → Follows (record { seen = seen; run = with_line story.run number e }) settings new start written
+follows_event story settings old new start mid written text number e seen ran read f goes w =
+    let kept = follows_names story settings old start mid text (lines.Event e) seen read f in
     record {
       made = f.made;
+      run = ran;
       names = subst (NamesOnly (λ t. t.0 < length seen.names)) (sym goes.journal) (NamesOnly-append (λ t. t.0 < length seen.names) goes.fresh old.journal (NamesOnly-weaker (IsOf e) (λ t. t.0 < length seen.names) (named story.seen text e seen read) goes.fresh goes.names) kept.names);
       text = wrote_entries story settings old start mid written text (lines.Event e) seen (journal_text seen.names goes.fresh) read f w ∙ ap (append_known start) (sym (ap (journal_text seen.names) goes.journal ∙ journal_text-append seen.names goes.fresh old.journal));
     }
@@ -117,40 +120,40 @@ fewer_entries was is old new e h k goes =
     omega (arith, ap (λ (l : List JournalEntry). length l) all, length-append was (reverse goes.fresh))
 
 -- a line, its story and the journal that it made
-pub runs_line : (text : List ℕ) (before : List (List ℕ)) (earlier story : Story) (old new : View) (line : Line) → Tells before earlier → Reads earlier.seen text line story.seen → story.run ≡ run_with earlier.run (length before + 1) line → RunsLine text before old.journal story new.journal
-runs_line text before earlier story old new line tells read run =
+pub runs_line : (text : List ℕ) (before : List (List ℕ)) (earlier story : Story) (old new : View) (line : Line) → IsRunOf earlier.run old → IsRunOf story.run new → Tells before earlier → Reads earlier.seen text line story.seen → story.run ≡ run_with earlier.run (length before + 1) line → RunsLine text before old.journal story new.journal
+runs_line text before earlier story old new line was ran tells read run =
     record {
       earlier = earlier;
-      without_line = record { tells = tells; cluster = old; entries = refl };
-      with_line = record { tells = (earlier, tells, line, read, run); cluster = new; entries = refl };
+      without_line = record { tells = tells; cluster = old; run = was; entries = refl };
+      with_line = record { tells = (earlier, tells, line, read, run); cluster = new; run = ran; entries = refl };
     }
 
 -- writing stopped between two entries
-pub shows_entries : (text : List ℕ) (before : List (List ℕ)) (earlier story : Story) (settings : Settings) (old new : View) (start mid written : Option (List ℕ)) (e : Event) (shown unshown : List JournalEntry) → Tells before earlier → Reads earlier.seen text (lines.Event e) story.seen → story.run ≡ run_with earlier.run (length before + 1) (lines.Event e) → Follows earlier settings old start mid → (goes : GoesOn old e new) → reverse goes.fresh ≡ shown ++ unshown → Wrote mid written (texts story.seen.names shown) → ShowsEntries text before start new.journal written
-shows_entries text before earlier story settings old new start mid written e shown unshown tells read run f goes split w =
+pub shows_entries : (text : List ℕ) (before : List (List ℕ)) (earlier story : Story) (settings : Settings) (old new : View) (start mid written : Option (List ℕ)) (e : Event) (shown unshown : List JournalEntry) → IsRunOf story.run new → Tells before earlier → Reads earlier.seen text (lines.Event e) story.seen → story.run ≡ run_with earlier.run (length before + 1) (lines.Event e) → Follows earlier settings old start mid → (goes : GoesOn old e new) → reverse goes.fresh ≡ shown ++ unshown → Wrote mid written (texts story.seen.names shown) → ShowsEntries text before start new.journal written
+shows_entries text before earlier story settings old new start mid written e shown unshown ran tells read run f goes split w =
     let fresh : goes.fresh ≡ reverse unshown ++ reverse shown = sym (reverse-reverse goes.fresh) ∙ ap (λ (l : List JournalEntry). reverse l) split ∙ reverse-append shown unshown in (
       old.journal,
       reverse shown,
       reverse unshown,
       story,
-      runs_line text before earlier story old new (lines.Event e) tells read run,
+      runs_line text before earlier story old new (lines.Event e) f.run ran tells read run,
       goes.journal ∙ ap (λ (l : List JournalEntry). l ++ old.journal) fresh ∙ append_assoc (reverse unshown) (reverse shown) old.journal,
       wrote_entries earlier settings old start mid written text (lines.Event e) story.seen (texts story.seen.names shown) read f w
           ∙ ap (append_known start) (sym (journal_text-append story.seen.names (reverse shown) old.journal ∙ ap (λ (l : List JournalEntry). journal_text story.seen.names old.journal ++ texts story.seen.names l) (reverse-reverse shown))),
     )
 
 -- a write failed among a line's entries
-pub shows_part : (text : List ℕ) (before : List (List ℕ)) (earlier story : Story) (settings : Settings) (old new : View) (start mid written : Option (List ℕ)) (e : Event) (count : ℕ) → Tells before earlier → Reads earlier.seen text (lines.Event e) story.seen → story.run ≡ run_with earlier.run (length before + 1) (lines.Event e) → Follows earlier settings old start mid → (goes : GoesOn old e new) → Wrote mid written (take count (journal_text story.seen.names goes.fresh)) → ShowsPart text before start new.journal written
-shows_part text before earlier story settings old new start mid written e count tells read run f goes w = (
+pub shows_part : (text : List ℕ) (before : List (List ℕ)) (earlier story : Story) (settings : Settings) (old new : View) (start mid written : Option (List ℕ)) (e : Event) (count : ℕ) → IsRunOf story.run new → Tells before earlier → Reads earlier.seen text (lines.Event e) story.seen → story.run ≡ run_with earlier.run (length before + 1) (lines.Event e) → Follows earlier settings old start mid → (goes : GoesOn old e new) → Wrote mid written (take count (journal_text story.seen.names goes.fresh)) → ShowsPart text before start new.journal written
+shows_part text before earlier story settings old new start mid written e count ran tells read run f goes w = (
   old.journal,
   goes.fresh,
   count,
   story,
-  runs_line text before earlier story old new (lines.Event e) tells read run,
+  runs_line text before earlier story old new (lines.Event e) f.run ran tells read run,
   goes.journal,
   wrote_entries earlier settings old start mid written text (lines.Event e) story.seen (take count (journal_text story.seen.names goes.fresh)) read f w,
 )
 
 -- nothing of a line was run
 pub shows_all : (before : List (List ℕ)) (story : Story) (settings : Settings) (cluster : View) (start written : Option (List ℕ)) → Tells before story → Follows story settings cluster start written → ShowsAll before start cluster.journal written
-shows_all before story settings cluster start written tells f = (story, record { tells = tells; cluster = cluster; entries = refl }, f.text)
+shows_all before story settings cluster start written tells f = (story, record { tells = tells; cluster = cluster; run = f.run; entries = refl }, f.text)

@@ -1,5 +1,6 @@
 use Rattle.std.specs.Prelude.{◌≡◌, ◌⊎◌, ⊤, ℕ, ◌+◌, List, [], ◌∷◌, ◌++◌, Option, length, take}
 use Rattle.scenario.specs.declared.entries.JournalEntry.{JournalEntry}
+use Rattle.sim_cluster.specs.Cluster.{IsRunOf}
 use Rattle.sim_cluster.specs.View.{View}
 use Rattle.std.specs.Io.KnownBytes.{prepend_known}
 use Rattle.mr_shell.specs.Content.{AreAllLines, AreFirstLines, IsCut}
@@ -8,10 +9,11 @@ use Rattle.mr_shell.specs.Texts.{journal_text, last_line, Wrote}
 use Rattle.mr_shell.specs.declared.outcome.End.{End}
 use Rattle.mr_shell.specs.declared.outcome.End.TheVariants as ends
 
--- These lines, the newest first, were read without a fault and run, and this journal came of it.
+-- These lines, the newest first, were read without a fault, and this journal is a run of them on a cluster.
 pub record AreRun (lines : List (List ℕ)) (story : Story) (journal : List JournalEntry) : Type 0 where
   pub tells : Tells lines story
   pub cluster : View
+  pub run : IsRunOf story.run cluster
   pub entries : cluster.journal ≡ journal
 
 -- The text of a journal, by the names that its transactions have once all lines of a story were read.

@@ -8,7 +8,7 @@ use Rattle.scenario.specs.declared.lines.Line.{Line}
 use Rattle.scenario.specs.declared.lines.Line.TheVariants as lines
 use Rattle.scenario.specs.declared.reader.Expected.TheVariants as expected
 use Rattle.sim_cluster.specs.Bounds.{AreSettings}
-use Rattle.sim_cluster.specs.Cluster.{IsStep}
+use Rattle.sim_cluster.specs.Cluster.{IsRunOf, IsStep}
 use Rattle.sim_cluster.specs.View.{View}
 use Rattle.mr_shell.specs.Content.{BeginsWith, IsCut}
 use Rattle.mr_shell.specs.Run.{AreRun, report_of, ShowsAll, ShowsEntries, ShowsPart, EndsAfter, EndsSaying, EndsShort, EndsUnwritten}
@@ -31,9 +31,10 @@ MayRun settings seen cluster (lines.Node info clock) = (clock < 2 ^ 53) × AreSe
 MayRun settings seen cluster (lines.Event e) = AreSettings settings × IsStep cluster e × (seen.expected ≡ expected.Transaction)
 MayRun settings seen cluster _ = IsReady settings seen cluster.journal
 
--- The cluster runs what a story tells, and its journal's text was written, to a sink that held `start`.
+-- The cluster has run what a story tells, and its journal's text was written, to a sink that held `start`.
 pub record Follows (story : Story) (settings : Settings) (cluster : View) (start written : Option (List ℕ)) : Type 0 where
   pub made : settings ≡ story.run.settings
+  pub run : IsRunOf story.run cluster
   pub names : NamesOnly (λ t. t.0 < length story.seen.names) cluster.journal
   pub text : Wrote start written (report_of story cluster.journal)
 

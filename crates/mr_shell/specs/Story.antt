@@ -1,28 +1,10 @@
 use Rattle.std.specs.Prelude.{◌≡◌, ℕ, ◌+◌, List, [], ◌∷◌, false, length}
-use Rattle.mr_base.specs.declared.settings.Settings.{Settings}
+use Rattle.run_laws.specs.LinesRun.{LinesRun, no_lines, with_line}
 use Rattle.scenario.specs.Lines.{Reads, HasNoLine, the_standard_settings}
 use Rattle.scenario.specs.Seen.{Seen}
-use Rattle.scenario.specs.declared.events.Event.{Event}
 use Rattle.scenario.specs.declared.lines.Line.{Line}
 use Rattle.scenario.specs.declared.lines.Line.TheVariants as lines
 use Rattle.scenario.specs.declared.reader.Expected.TheVariants as expected
-
--- A line from `begin` on, with its number.
-pub record NumberedEvent : Type 0 where
-  pub line : ℕ
-  pub event : Event
-
--- The lines that a cluster ran, the newest first, and what it was made with.
-pub record LinesRun : Type 0 where
-  pub settings : Settings
-  pub clock : ℕ
-  pub events : List NumberedEvent
-
-abbrev pub no_lines : Settings → ℕ → LinesRun
-no_lines settings clock = record { settings = settings; clock = clock; events = [] }
-
-abbrev pub with_line : LinesRun → ℕ → Event → LinesRun
-with_line s line e = record s { events = record { line = line; event = e } ∷ s.events }
 
 -- What the lines of a scenario tell: what is kept of them to read the next one, and what the cluster runs.
 pub record Story : Type 0 where
