@@ -1,4 +1,4 @@
-use Rattle.std.specs.Prelude.{◌≡◌, ◌⊎◌, ⊤, ℕ, ◌+◌, List, [], ◌∷◌, ◌++◌, Option, length, take}
+use Rattle.std.specs.Prelude.{◌≡◌, ◌⊎◌, ⊤, ℕ, ◌+◌, List, [], ◌∷◌, ◌++◌, Option, length, take, ◌≤◌, Some, None}
 use Rattle.scenario.specs.declared.entries.JournalEntry.{JournalEntry}
 use Rattle.sim_cluster.specs.Cluster.{IsRunOf}
 use Rattle.sim_cluster.specs.View.{View}
@@ -89,3 +89,9 @@ HasEnded end taken left start journal written = EndsWith end taken left start jo
 -- Some bytes were taken of a source, and P holds of them.
 abbrev pub AfterTaking : (old new : Option (List ℕ)) → (List ℕ → Type 0) → Type 0
 AfterTaking old new P = (taken : List ℕ) × (old ≡ prepend_known taken new) × P taken
+
+-- A source holds a scenario that isn't too large, and whose lines have no fault.
+abbrev pub IsFaultless : (known : Option (List ℕ)) → Type 0
+IsFaultless None = ⊥
+IsFaultless (Some bytes) =
+    (length bytes ≤ 16777216) × (lines : List (List ℕ)) × AreAllLines bytes (Some []) lines × (story : Story) × Tells lines story
