@@ -25,10 +25,15 @@ pub may_run : (settings : Settings) (seen : Seen) (cluster : View) (line : List 
 may_run settings seen cluster line lines.Skipped seen' ready h = subst (λ (s : Seen). IsReady settings s cluster.journal) (sym h.1) ready
 may_run settings seen cluster line (lines.Cluster new) seen' ready h = (
   subst AreSettings (sym h.2) standard_fits,
-  unbegun settings seen' cluster.journal (ready.unbegun (λ q. let p = h.0 in cc)) (λ e. let f : seen'.expected ≡ expected.Node = ap (λ (s : Seen). s.expected) h.3 in cc) ready.durations,
+  λ e. let f : seen'.expected ≡ expected.Node = ap (λ (s : Seen). s.expected) h.3 in cc,
+  ready.unbegun (λ q. let p = h.0 in cc),
 )
-may_run settings seen cluster line (lines.Node info clock) seen' ready h =
-    (h.2.2.small, ready.durations, λ e. let f : seen'.expected ≡ expected.Database = ap (λ (s : Seen). s.expected) h.3 in cc)
+may_run settings seen cluster line (lines.Node info clock) seen' ready h = (
+  h.2.2.small,
+  ready.durations,
+  λ e. let f : seen'.expected ≡ expected.Database = ap (λ (s : Seen). s.expected) h.3 in cc,
+  ready.unbegun (λ q. let p = h.0 in cc),
+)
 may_run settings seen cluster line (lines.Sql text) seen' ready h =
     elim h.1 [
       | inl k ↦ unbegun settings seen' cluster.journal (ready.unbegun (λ q. let p = k.0 in cc)) (λ e. let f : seen'.expected ≡ expected.Table = ap (λ (s : Seen). s.expected) k.2 in cc) ready.durations
@@ -37,17 +42,5 @@ may_run settings seen cluster line (lines.Sql text) seen' ready h =
 may_run settings seen cluster line (lines.Event events.Begin) seen' ready h =
     (ready.durations, ready.unbegun (λ q. let p = h.0 in cc), ap (λ (s : Seen). s.expected) h.2)
 may_run settings seen cluster line (lines.Event (events.Txn t g k list)) seen' ready h =
-    (ready.durations, (ready.begun h.0, h.7), ap (λ (s : Seen). s.expected) h.8 ∙ h.0)
+    (ready.durations, (ready.begun h.0, h.2, h.3, h.7), ap (λ (s : Seen). s.expected) h.8 ∙ h.0)
 may_run settings seen cluster line (lines.Event _) seen' ready h = absurd h
-
-append_some : (xs ys : List JournalEntry) → xs ≢ [] → xs ++ ys ≢ []
-append_some [] ys some e = some refl
-append_some (x ∷ xs) ys some e = cc
-
--- after an event's line the next one may be run
-pub after_event : (settings : Settings) (seen : Seen) (e : Event) (old new : View) → AreSettings settings → seen.expected ≡ expected.Transaction → GoesOn old e new → IsReady settings seen new.journal
-after_event settings seen e old new fits is goes =
-    record { durations = fits; begun = λ _ f. append_some goes.fresh old.journal goes.some (sym goes.journal ∙ f); unbegun = λ apart. absurd (apart is) }
-
-pub after_node : (settings : Settings) (seen : Seen) (journal : List JournalEntry) → AreSettings settings → seen.expected ≢ expected.Transaction → journal ≡ [] → IsReady settings seen journal
-after_node settings seen journal fits apart e = unbegun settings seen journal e apart fits

@@ -1,45 +1,47 @@
-use Rattle.std.specs.Prelude.{◌≡◌, ◌≢◌, ◌⊎◌, ℕ, List, [], ◌∷◌, ◌++◌, ◌==◌, if◌then◌else◌}
-use Rattle.scenario.specs.Lines.{Reads}
-use Rattle.scenario.specs.Seen.{Seen}
-use Rattle.scenario.specs.declared.reader.Expected.TheVariants as expected
-use Rattle.scenario.specs.declared.lines.Line.{Line}
+use Rattle.std.specs.Prelude.{◌≡◌, ◌≢◌, ◌⊎◌, ℕ, List, [], ◌∷◌, ◌++◌, All, Option}
+use Rattle.std.specs.Io.KnownBytes.{IsAtEnd}
 
--- The lines of bytes that follow the beginning of a line: each up to a line feed.
-abbrev pub lines_from : List ℕ → List ℕ → List (List ℕ)
-lines_from begun [] = []
-lines_from begun (b ∷ bs) = if b == 10 then begun ∷ lines_from [] bs else lines_from (begun ++ b ∷ []) bs
+-- A byte that isn't the line feed.
+abbrev pub IsWithinLine : ℕ → Type 0
+IsWithinLine b = b ≢ 10
 
--- What follows the last line feed of such bytes.
-abbrev pub rest_from : List ℕ → List ℕ → List ℕ
-rest_from begun [] = begun
-rest_from begun (b ∷ bs) = if b == 10 then rest_from [] bs else rest_from (begun ++ b ∷ []) bs
+-- What stands before a line feed is this line: one carriage return there belongs to the line's end.
+abbrev pub IsContent : (before line : List ℕ) → Type 0
+IsContent before line = (before ≡ line ++ 13 ∷ []) ⊎ ((before ≡ line) × ((front : List ℕ) → before ≢ front ++ 13 ∷ []))
 
--- The whole lines of a text.
-abbrev pub lines_of : List ℕ → List (List ℕ)
-lines_of bytes = lines_from [] bytes
+-- Bytes are exactly these lines, the newest first, each with its end.
+abbrev pub AreLines : (bytes : List ℕ) → (lines : List (List ℕ)) → Type 0
+AreLines bytes [] = bytes ≡ []
+AreLines bytes (line ∷ lines) =
+    (front before : List ℕ) × AreLines front lines × All IsWithinLine before × IsContent before line × (bytes ≡ front ++ (before ++ 10 ∷ []))
 
--- What follows the last whole line.
-abbrev pub rest_of : List ℕ → List ℕ
-rest_of bytes = rest_from [] bytes
+-- Bytes are these lines, and then a rest without a line feed.
+pub record IsCut (bytes : List ℕ) (lines : List (List ℕ)) (rest : List ℕ) : Type 0 where
+  pub front : List ℕ
+  pub ended : AreLines front lines
+  pub within : All IsWithinLine rest
+  pub whole : bytes ≡ front ++ rest
 
-abbrev pub last_line : List ℕ → List (List ℕ)
-last_line [] = []
-last_line (b ∷ bs) = (b ∷ bs) ∷ []
+-- Bytes begin with these lines.
+pub record BeginsWith (bytes : List ℕ) (lines : List (List ℕ)) : Type 0 where
+  pub front : List ℕ
+  pub beyond : List ℕ
+  pub ended : AreLines front lines
+  pub whole : bytes ≡ front ++ beyond
 
--- The lines of a text that has ended: a last line without a line feed is a line.
-abbrev pub all_lines : List ℕ → List (List ℕ)
-all_lines bytes = lines_of bytes ++ last_line (rest_of bytes)
+-- A source has ended: what stands behind the last line feed is a line too, if anything does.
+abbrev pub with_last : (rest : List ℕ) → (lines : List (List ℕ)) → List (List ℕ)
+with_last [] lines = lines
+with_last (b ∷ bs) lines = (b ∷ bs) ∷ lines
 
--- A line without its end: one carriage return before the line feed belongs to the end.
-abbrev pub IsContent : List ℕ → List ℕ → Type 0
-IsContent raw line = (raw ≡ line ++ 13 ∷ []) ⊎ ((raw ≡ line) × ((front : List ℕ) → raw ≢ front ++ 13 ∷ []))
+-- The bytes taken of a source that has ended are these lines.
+pub record AreAllLines (taken : List ℕ) (left : Option (List ℕ)) (lines : List (List ℕ)) : Type 0 where
+  pub ended : List (List ℕ)
+  pub rest : List ℕ
+  pub cut : IsCut taken ended rest
+  pub last : lines ≡ with_last rest ended
+  pub source : IsAtEnd left
 
--- These lines are read one after the other, none of them with a fault.
-abbrev pub ReadsAll : Seen → List (List ℕ) → Seen → Type 0
-ReadsAll seen [] after = after ≡ seen
-ReadsAll seen (raw ∷ raws) after =
-    (line : List ℕ) × IsContent raw line × (l : Line) × (mid : Seen) × Reads seen line l mid × ReadsAll mid raws after
-
--- Nothing was read yet.
-abbrev pub IsStart : Seen → Type 0
-IsStart seen = (seen.expected ≡ expected.Cluster) × (seen.names ≡ [])
+-- The bytes taken of a source, of which these are left, begin with these lines.
+abbrev pub AreFirstLines : (taken : List ℕ) → (left : Option (List ℕ)) → (lines : List (List ℕ)) → Type 0
+AreFirstLines taken left lines = BeginsWith taken lines ⊎ AreAllLines taken left lines

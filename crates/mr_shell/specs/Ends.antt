@@ -29,7 +29,3 @@ status_of ends.Size = 7
 -- The statuses of the process.
 abbrev pub IsStatus : ℕ → Type 0
 IsStatus status = (status < 6) ⊎ (status ≡ 7)
-
--- The statuses of a run.
-abbrev pub IsRunStatus : ℕ → Type 0
-IsRunStatus status = IsStatus status × (status ≢ 2)

@@ -1,5 +1,7 @@
 pub mod Content
 pub mod Ends
+pub mod Run
 pub mod Session
+pub mod Story
 pub mod Texts
 pub mod Words

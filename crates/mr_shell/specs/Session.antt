@@ -1,16 +1,22 @@
-use Rattle.std.specs.Prelude.{◌≡◌, ◌≢◌, ℕ, ◌+◌, ◌<◌, ◌^◌, [], ⊤, List}
+use Rattle.std.specs.Prelude.{◌≡◌, ◌≢◌, ◌⊎◌, ℕ, ◌+◌, ◌<◌, ◌^◌, [], ◌∷◌, ⊤, List, Option, length}
 use Rattle.mr_base.specs.declared.settings.Settings.{Settings}
-use Rattle.scenario.specs.Lines.{HasNoLine}
+use Rattle.scenario.specs.Lines.{Reads}
+use Rattle.scenario.specs.Names.{NamesOnly}
 use Rattle.scenario.specs.Seen.{Seen}
 use Rattle.scenario.specs.declared.entries.JournalEntry.{JournalEntry}
 use Rattle.scenario.specs.declared.lines.Line.{Line}
 use Rattle.scenario.specs.declared.lines.Line.TheVariants as lines
 use Rattle.scenario.specs.declared.reader.Expected.TheVariants as expected
 use Rattle.sim_cluster.specs.Bounds.{AreSettings}
-use Rattle.sim_cluster.specs.Cluster.{IsStep}
+use Rattle.sim_cluster.specs.Cluster.{IsRunOf, IsStep}
 use Rattle.sim_cluster.specs.View.{View}
+use Rattle.mr_shell.specs.Content.{BeginsWith, IsCut}
+use Rattle.mr_shell.specs.Run.{AreRun, report_of, ShowsAll, ShowsEntries, ShowsPart, EndsAfter, EndsSaying, EndsShort, EndsUnwritten}
+use Rattle.mr_shell.specs.Story.{Story, Tells, HasFault}
+use Rattle.mr_shell.specs.Texts.{Wrote}
 use Rattle.mr_shell.specs.declared.outcome.End.{End}
 use Rattle.mr_shell.specs.declared.outcome.End.TheVariants as ends
+use Rattle.mr_shell.specs.declared.session.Session.{Session}
 
 -- The next line may be run: the cluster has entries exactly where `begin` was read.
 pub record IsReady (settings : Settings) (seen : Seen) (journal : List JournalEntry) : Type 0 where
@@ -20,20 +26,57 @@ pub record IsReady (settings : Settings) (seen : Seen) (journal : List JournalEn
 
 -- A line that was read may be run.
 abbrev pub MayRun : Settings → Seen → View → Line → Type 0
-MayRun settings seen cluster (lines.Cluster new) = AreSettings new × IsReady settings seen cluster.journal
-MayRun settings seen cluster (lines.Node info clock) = (clock < 2 ^ 53) × AreSettings settings × (seen.expected ≢ expected.Transaction)
+MayRun settings seen cluster (lines.Cluster new) = AreSettings new × (seen.expected ≢ expected.Transaction) × (cluster.journal ≡ [])
+MayRun settings seen cluster (lines.Node info clock) = (clock < 2 ^ 53) × AreSettings settings × (seen.expected ≢ expected.Transaction) × (cluster.journal ≡ [])
 MayRun settings seen cluster (lines.Event e) = AreSettings settings × IsStep cluster e × (seen.expected ≡ expected.Transaction)
 MayRun settings seen cluster _ = IsReady settings seen cluster.journal
 
--- What ends the run of a line that was read.
-abbrev pub IsLack : End → Type 0
-IsLack ends.Memory = ⊤
-IsLack ends.Write = ⊤
-IsLack _ = ⊥
+-- The cluster has run what a story tells, and its journal's text was written, to a sink that held `start`.
+pub record Follows (story : Story) (settings : Settings) (cluster : View) (start written : Option (List ℕ)) : Type 0 where
+  pub made : settings ≡ story.run.settings
+  pub run : IsRunOf story.run cluster
+  pub names : NamesOnly (λ t. t.0 < length story.seen.names) cluster.journal
+  pub text : Wrote start written (report_of story cluster.journal)
 
--- A line's run ends the whole run: for a fault of the line, want of memory or a failed write.
-abbrev pub EndsLine : Seen → ℕ → List ℕ → End → Type 0
-EndsLine seen run line (ends.Fault fault number) = (fault ≡ 1) × (number ≡ run + 1) × HasNoLine seen line
-EndsLine seen run line ends.Memory = ⊤
-EndsLine seen run line ends.Write = ⊤
-EndsLine seen run line _ = ⊥
+-- A session once these lines were read and run, the newest first, none of them with a fault.
+pub record HasRun (lines : List (List ℕ)) (start : Option (List ℕ)) (session : Session) (written : Option (List ℕ)) : Type 0 where
+  pub story : Story
+  pub tells : Tells lines story
+  pub seen : session.scenario ≡ story.seen
+  pub number : session.lines ≡ length lines
+  pub follows : Follows story session.settings session.cluster start written
+
+-- The same once the next line was read so, and before it is run.
+pub record HasRead (line : Line) (text : List ℕ) (lines : List (List ℕ)) (start : Option (List ℕ)) (session : Session) (written : Option (List ℕ)) : Type 0 where
+  pub story : Story
+  pub tells : Tells lines story
+  pub read : Reads story.seen text line session.scenario
+  pub number : session.lines ≡ length lines + 1
+  pub follows : Follows story session.settings session.cluster start written
+
+-- A session of which these bytes were taken: their lines were run, and the rest waits for its end.
+pub record HasTaken (taken : List ℕ) (start : Option (List ℕ)) (session : Session) (pending : List ℕ) (written : Option (List ℕ)) : Type 0 where
+  pub lines : List (List ℕ)
+  pub cut : IsCut taken lines pending
+  pub run : HasRun lines start session written
+
+-- Why a line ends the run, and what was written then.
+abbrev pub StopsAt : End → List ℕ → List (List ℕ) → (start : Option (List ℕ)) → List JournalEntry → (written : Option (List ℕ)) → Type 0
+StopsAt (ends.Fault fault number) text lines start journal written =
+    (number ≡ length lines + 1)
+    × (story : Story) × HasFault story text fault × AreRun lines story journal × Wrote start written (report_of story journal)
+StopsAt ends.Memory text lines start journal written = ShowsAll lines start journal written ⊎ ShowsEntries text lines start journal written
+StopsAt ends.Write text lines start journal written = ShowsPart text lines start journal written
+StopsAt _ text lines start journal written = ⊥
+
+-- Why a run ends while these bytes are run, and what was written then.
+abbrev pub StopsWithin : End → (taken : List ℕ) → (start : Option (List ℕ)) → List JournalEntry → (written : Option (List ℕ)) → Type 0
+StopsWithin end taken start journal written =
+    ((text : List ℕ) × (lines : List (List ℕ)) × BeginsWith taken (text ∷ lines) × StopsAt end text lines start journal written)
+    ⊎ ((end ≡ ends.Memory) × (lines : List (List ℕ)) × BeginsWith taken lines × ShowsAll lines start journal written)
+
+-- Why a run ends, before anything is said of it, and what was written then.
+abbrev pub Stops : End → (taken : List ℕ) → (left start : Option (List ℕ)) → List JournalEntry → (written : Option (List ℕ)) → Type 0
+Stops ends.Memory taken left start journal written = EndsShort taken left start journal written
+Stops ends.Write taken left start journal written = EndsUnwritten taken left start journal written
+Stops end taken left start journal written = EndsSaying [] end taken left start journal written

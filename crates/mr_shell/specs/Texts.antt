@@ -1,9 +1,11 @@
-use Rattle.std.specs.Prelude.{ℕ, List, ◌++◌, codes, reverse}
+use Rattle.std.specs.Prelude.{◌≡◌, ◌⊎◌, ⊤, ℕ, List, [], ◌++◌, Option, codes, reverse, decimal, take}
+use Rattle.std.specs.Io.KnownBytes.{append_known}
 use Rattle.std.specs.List.{flat_map}
-use Rattle.std.specs.Fmt.{decimal}
 use Rattle.scenario.specs.EntryText.{entry_text}
 use Rattle.scenario.specs.declared.entries.JournalEntry.{JournalEntry}
 use Rattle.scenario.specs.declared.lines.Mode.TheVariants as mode
+use Rattle.mr_shell.specs.declared.outcome.End.{End}
+use Rattle.mr_shell.specs.declared.outcome.End.TheVariants as ends
 
 -- The answers of these entries, given the names of the transactions.
 abbrev pub texts : List (List ℕ) → List JournalEntry → List ℕ
@@ -13,6 +15,38 @@ texts names entries = flat_map (entry_text names mode.Answers) entries
 abbrev pub journal_text : List (List ℕ) → List JournalEntry → List ℕ
 journal_text names journal = texts names (reverse journal)
 
--- The last line where a line has a fault.
-abbrev pub fault_line : ℕ → ℕ → List ℕ
-fault_line fault line = codes "! S" ++ decimal fault ++ codes " line " ++ decimal line ++ codes "\n"
+-- What a sink that held `start` has been given since.
+abbrev pub Wrote : (start written : Option (List ℕ)) → List ℕ → Type 0
+Wrote start written text = written ≡ append_known start text
+
+-- Where the writing of entries, the oldest first, stops: for want of memory between two of them, for a
+-- failed write anywhere.
+abbrev pub ShowsSome : End → List (List ℕ) → List JournalEntry → (start written : Option (List ℕ)) → Type 0
+ShowsSome ends.Memory names entries start written =
+    (shown unshown : List JournalEntry) × (entries ≡ shown ++ unshown) × Wrote start written (texts names shown)
+ShowsSome ends.Write names entries start written = (count : ℕ) × Wrote start written (take count (texts names entries))
+ShowsSome _ names entries start written = ⊥
+
+-- The line that says why a run ends, where there is one.
+abbrev pub last_line : End → List ℕ
+last_line (ends.Fault fault line) = codes "! S" ++ decimal fault ++ codes " line " ++ decimal line ++ codes "\n"
+last_line ends.Size = codes "! size\n"
+last_line _ = []
+
+-- The line of words that are no command.
+abbrev pub usage_line : List ℕ
+usage_line = codes "! usage: run [--trace | --summary] | zones [--json] | gen SEED SIZE | work SEED SIZE\n"
+
+-- A last line tells of an end.
+abbrev pub IsTold : End → Type 0
+IsTold (ends.Fault fault line) = ⊤
+IsTold ends.Size = ⊤
+IsTold _ = ⊥
+
+-- Saying why a run ends: the run ends so where its last line was written, for want of memory where the
+-- line couldn't be made, and for a failed write where it wasn't written whole.
+abbrev pub Says : (end result : End) → (start written : Option (List ℕ)) → Type 0
+Says end result start written =
+    ((result ≡ end) × Wrote start written (last_line end))
+    ⊎ (((result ≡ ends.Memory) × IsTold end × (written ≡ start))
+    ⊎ ((result ≡ ends.Write) × IsTold end × (count : ℕ) × Wrote start written (take count (last_line end))))

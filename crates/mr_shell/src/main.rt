@@ -4,6 +4,7 @@
 mod commands;
 mod outcome;
 mod pieces;
+mod report;
 mod session;
 mod top;
 

@@ -1,9 +1,12 @@
 //! Reading a source in pieces and running its lines.
 
-ghost use Rattle.std.specs.Prelude.{◌≡◌, ◌≤◌, IfErr, IfOk, OnErr, OnOk, vec_len};
+ghost use Rattle.std.specs.Prelude.{◌≡◌, ◌≤◌, ◌+◌, ◌<◌, ℕ, List, Option, [], ◌∷◌, ◌++◌, IfErr, IfOk, OnErr, OnOk, length, take, vec_len};
+ghost use Rattle.std.specs.Io.KnownBytes.{IsAtEnd, prepend_known};
 ghost use Rattle.mr_io.specs.Faults.{CountsFault};
+ghost use Rattle.mr_shell.specs.Content.{IsContent};
 ghost use Rattle.mr_shell.specs.Ends.{EndsLines, EndsPieces};
-ghost use Rattle.mr_shell.specs.Session.{IsReady};
+ghost use Rattle.mr_shell.specs.Run.{AfterTaking};
+ghost use Rattle.mr_shell.specs.Session.{IsReady, HasRun, HasTaken, Stops, StopsWithin};
 
 use crate::outcome::End;
 use crate::session::Session;
@@ -33,7 +36,10 @@ pub fn run_source<S: Source, K: Sink>(
     source: &mut S,
     sink: &mut K,
 ) -> Result<(), End>
-    requires { IsReady session.old.settings session.old.scenario session.old.cluster.journal }
+    requires ready { IsReady session.old.settings session.old.scenario session.old.cluster.journal }
+    requires unread { HasRun [] (K.written sink.old) session.old (K.written sink.old) }
+    ensures whole { OnOk result (AfterTaking (S.left source.old) (S.left source.new) (λ taken. Stops End.Whole taken (S.left source.new) (K.written sink.old) session.new.cluster.journal (K.written sink.new))) }
+    ensures stops { IfErr result (λ e. AfterTaking (S.left source.old) (S.left source.new) (λ taken. Stops e taken (S.left source.new) (K.written sink.old) session.new.cluster.journal (K.written sink.new))) }
     ensures ends { IfErr result EndsPieces }
     ensures read_failed { result ≡ Err End.Read → CountsFault (S.faults source.old) (S.faults source.new) S.most_faults }
     ensures write_failed { result ≡ Err End.Write → CountsFault (K.faults sink.old) (K.faults sink.new) K.most_faults }
@@ -41,46 +47,59 @@ pub fn run_source<S: Source, K: Sink>(
 {
     match new_buffer(alloc) {
         Err(_) => Err(End::Memory),
-        Ok(mut buffer) => run_pieces(session, &mut buffer, Vec::new(alloc), source, sink),
+        Ok(mut buffer) => run_pieces(
+            session,
+            buffer.as_mut_slice(),
+            Vec::new(alloc),
+            source,
+            sink,
+        ),
     }
 }
 
 /// Runs the pieces of a source to its end.
 fn run_pieces<S: Source, K: Sink>(
     session: &mut Session,
-    buffer: &mut Vec<u8>,
+    buffer: &mut [u8],
     mut pending: Vec<u8>,
     source: &mut S,
     sink: &mut K,
 ) -> Result<(), End>
     requires ready { IsReady session.old.settings session.old.scenario session.old.cluster.journal }
-    requires room { vec_len buffer.old ≡ 65536 }
+    requires unread { HasRun [] (K.written sink.old) session.old (K.written sink.old) }
+    requires room { length buffer.old ≡ 65536 }
+    requires empty { pending.items ≡ [] }
+    ensures whole { OnOk result (AfterTaking (S.left source.old) (S.left source.new) (λ taken. Stops End.Whole taken (S.left source.new) (K.written sink.old) session.new.cluster.journal (K.written sink.new))) }
+    ensures stops { IfErr result (λ e. AfterTaking (S.left source.old) (S.left source.new) (λ taken. Stops e taken (S.left source.new) (K.written sink.old) session.new.cluster.journal (K.written sink.new))) }
     ensures ends { IfErr result EndsPieces }
     ensures read_failed { result ≡ Err End.Read → CountsFault (S.faults source.old) (S.faults source.new) S.most_faults }
     ensures write_failed { result ≡ Err End.Write → CountsFault (K.faults sink.old) (K.faults sink.new) K.most_faults }
     ensures never_falls { K.faults sink.old ≤ K.faults sink.new }
 {
     let mut taken = 0;
-    while taken <= LARGEST {
+    'pieces: loop {
         let count = read_piece(source, buffer, taken)?;
         if count == 0 {
             return run_last(session, pending.as_slice(), sink);
         }
-        taken += count;
-        if taken > LARGEST {
+        if taken == LARGEST {
             return Err(End::Size);
         }
+        taken += count;
         run_piece(session, &mut pending, &buffer[..count], sink)?;
     }
-    Err(End::Size)
 }
 
 /// Takes the next piece, where so many bytes were taken: no more than one byte past the largest scenario.
-fn read_piece<S: Source>(source: &mut S, buffer: &mut Vec<u8>, taken: usize) -> Result<usize, End>
-    requires room { vec_len buffer.old ≡ 65536 }
+fn read_piece<S: Source>(source: &mut S, buffer: &mut [u8], taken: usize) -> Result<usize, End>
+    requires room { length buffer.old ≡ 65536 }
     requires taken { taken ≤ 16777216 }
-    ensures kept { vec_len buffer.new ≡ vec_len buffer.old }
     ensures within { IfOk result (λ n. n ≤ 65536) }
+    ensures bounded { IfOk result (λ n. taken < 16777216 → taken + n ≤ 16777216) }
+    ensures one_beyond { IfOk result (λ n. taken ≡ 16777216 → n ≤ 1) }
+    ensures told { IfOk result (λ n. S.left source.old ≡ prepend_known (take n buffer.new) (S.left source.new)) }
+    ensures end { IfOk result (λ n. n ≡ 0 → IsAtEnd (S.left source.old)) }
+    ensures unread { OnErr result (S.left source.new ≡ S.left source.old) }
     ensures ends { IfErr result (λ e. e ≡ End.Read) }
     ensures failed { OnErr result (CountsFault (S.faults source.old) (S.faults source.new) S.most_faults) }
     ensures never_falls { S.faults source.old ≤ S.faults source.new }
@@ -105,6 +124,8 @@ fn run_piece<K: Sink>(
 ) -> Result<(), End>
     requires { IsReady session.old.settings session.old.scenario session.old.cluster.journal }
     ensures ready { OnOk result (IsReady session.new.settings session.new.scenario session.new.cluster.journal) }
+    ensures runs { OnOk result ((taken : List ℕ) (start : Option (List ℕ)) → HasTaken taken start session.old pending.old.items (K.written sink.old) → HasTaken (taken ++ piece.now) start session.new pending.new.items (K.written sink.new)) }
+    ensures stops { IfErr result (λ e. (taken : List ℕ) (start : Option (List ℕ)) → HasTaken taken start session.old pending.old.items (K.written sink.old) → StopsWithin e (taken ++ piece.now) start session.new.cluster.journal (K.written sink.new)) }
     ensures ends { IfErr result EndsLines }
     ensures failed { result ≡ Err End.Write → CountsFault (K.faults sink.old) (K.faults sink.new) K.most_faults }
     ensures never_falls { K.faults sink.old ≤ K.faults sink.new }
@@ -123,6 +144,8 @@ fn run_byte<K: Sink>(
 ) -> Result<(), End>
     requires { IsReady session.old.settings session.old.scenario session.old.cluster.journal }
     ensures ready { OnOk result (IsReady session.new.settings session.new.scenario session.new.cluster.journal) }
+    ensures runs { OnOk result ((taken : List ℕ) (start : Option (List ℕ)) → HasTaken taken start session.old pending.old.items (K.written sink.old) → HasTaken (taken ++ byte ∷ []) start session.new pending.new.items (K.written sink.new)) }
+    ensures stops { IfErr result (λ e. (taken : List ℕ) (start : Option (List ℕ)) → HasTaken taken start session.old pending.old.items (K.written sink.old) → StopsWithin e (taken ++ byte ∷ []) start session.new.cluster.journal (K.written sink.new)) }
     ensures ends { IfErr result EndsLines }
     ensures failed { result ≡ Err End.Write → CountsFault (K.faults sink.old) (K.faults sink.new) K.most_faults }
     ensures never_falls { K.faults sink.old ≤ K.faults sink.new }
@@ -138,9 +161,12 @@ fn run_byte<K: Sink>(
     Ok(())
 }
 
-/// Runs what stands after the last line feed of a source that has ended, if anything does.
+/// Runs what stands after the last line feed of a source that has ended, if anything does: a line too,
+/// of which a carriage return at its end is a part, since no line feed follows.
 fn run_last<K: Sink>(session: &mut Session, pending: &[u8], sink: &mut K) -> Result<(), End>
     requires { IsReady session.old.settings session.old.scenario session.old.cluster.journal }
+    ensures whole { OnOk result ((taken : List ℕ) (left start : Option (List ℕ)) → HasTaken taken start session.old pending.now (K.written sink.old) → IsAtEnd left → Stops End.Whole taken left start session.new.cluster.journal (K.written sink.new)) }
+    ensures stops { IfErr result (λ e. (taken : List ℕ) (left start : Option (List ℕ)) → HasTaken taken start session.old pending.now (K.written sink.old) → IsAtEnd left → Stops e taken left start session.new.cluster.journal (K.written sink.new)) }
     ensures ends { IfErr result EndsLines }
     ensures failed { result ≡ Err End.Write → CountsFault (K.faults sink.old) (K.faults sink.new) K.most_faults }
     ensures never_falls { K.faults sink.old ≤ K.faults sink.new }
@@ -148,13 +174,15 @@ fn run_last<K: Sink>(session: &mut Session, pending: &[u8], sink: &mut K) -> Res
     if pending.is_empty() {
         return Ok(());
     }
-    session.run_line(content(pending), sink)
+    session.run_line(pending, sink)
 }
 
-/// A line without its end.
-fn content(raw: &[u8]) -> &[u8] {
-    match before_tail(raw, b"\r") {
+/// The line that ends where a line feed follows these bytes.
+fn content(before: &[u8]) -> &[u8]
+    ensures { IsContent before.now result.now }
+{
+    match before_tail(before, b"\r") {
         Some(line) => line,
-        None => raw,
+        None => before,
     }
 }

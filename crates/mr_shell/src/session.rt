@@ -1,20 +1,20 @@
 //! A run of a scenario, line by line.
 
-ghost use Rattle.std.specs.Prelude.{◌≡◌, ◌≢◌, ◌≤◌, ◌<◌, ◌^◌, [], IfErr, IsOk, OnOk};
+ghost use Rattle.std.specs.Prelude.{◌≡◌, ◌≢◌, ◌≤◌, ◌<◌, ◌^◌, ℕ, List, Option, [], ◌∷◌, IfErr, IsOk, OnOk, codes};
+ghost use Rattle.scenario.specs.declared.lines.Line.TheVariants as lines;
 ghost use Rattle.scenario.specs.declared.reader.Expected.TheVariants as expecteds;
 ghost use Rattle.sim_cluster.specs.Bounds.{AreSettings};
 ghost use Rattle.sim_cluster.specs.Cluster.{IsStep};
+ghost use Rattle.mr_base.specs.declared.nodes.NodeInfo.{NodeInfo};
 ghost use Rattle.mr_io.specs.Faults.{CountsFault};
-ghost use Rattle.mr_shell.specs.Content.{IsStart};
-ghost use Rattle.mr_shell.specs.Session.{IsReady, MayRun, EndsLine, IsLack};
+ghost use Rattle.mr_shell.specs.Ends.{EndsLines};
+ghost use Rattle.mr_shell.specs.Session.{IsReady, MayRun, HasRun, HasRead, StopsAt};
 
 use crate::outcome::End;
+use crate::report::{entries_after, write_entries};
 use mr_base::Settings;
-use mr_io::{Sink, write_all};
-use scenario::{
-    Event, Journal, JournalEntry, Line, LineFault, Mode, NoWorld, Scenario, standard_settings,
-    text_of,
-};
+use mr_io::Sink;
+use scenario::{Event, Journal, Line, LineFault, NoWorld, Scenario, standard_settings};
 use sim_cluster::Cluster;
 use std::alloc::Global;
 
@@ -29,12 +29,12 @@ pub struct Session {
 }
 
 impl Session {
+    ghost use Rattle.mr_base.specs.declared.nodes.NodeInfo.{NodeInfo};
+
     /// A run of which no line was read yet.
     pub fn new(alloc: Global) -> Session
         ensures ready { IsReady result.settings result.scenario result.cluster.journal }
-        ensures unread { IsStart result.scenario }
-        ensures lines { result.lines ≡ 0 }
-        ensures journal { result.cluster.journal ≡ [] }
+        ensures unread { (start : Option (List ℕ)) → HasRun [] start result start }
     {
         let settings = standard_settings();
         Session {
@@ -64,21 +64,25 @@ impl Session {
     pub fn run_line<K: Sink>(&mut self, line: &[u8], sink: &mut K) -> Result<(), End>
         requires { IsReady self.old.settings self.old.scenario self.old.cluster.journal }
         ensures ready { OnOk result (IsReady self.new.settings self.new.scenario self.new.cluster.journal) }
-        ensures ends { IfErr result (λ e. EndsLine self.old.scenario self.old.lines line.now e) }
+        ensures runs { OnOk result ((before : List (List ℕ)) (start : Option (List ℕ)) → HasRun before start self.old (K.written sink.old) → HasRun (line.now ∷ before) start self.new (K.written sink.new)) }
+        ensures stops { IfErr result (λ e. (before : List (List ℕ)) (start : Option (List ℕ)) → HasRun before start self.old (K.written sink.old) → StopsAt e line.now before start self.new.cluster.journal (K.written sink.new)) }
+        ensures ends { IfErr result EndsLines }
         ensures failed { result ≡ Err End.Write → CountsFault (K.faults sink.old) (K.faults sink.new) K.most_faults }
         ensures never_falls { K.faults sink.old ≤ K.faults sink.new }
     {
         let Some(number) = self.lines.checked_add(1) else {
             return Err(End::Memory);
         };
-        self.lines = number;
         match self.scenario.read_line(line, &NoWorld) {
             Err(LineFault::S(fault)) => Err(End::Fault {
                 fault,
                 line: number,
             }),
             Err(LineFault::Memory) => Err(End::Memory),
-            Ok(line) => self.run(line, sink),
+            Ok(read) => {
+                self.lines = number;
+                self.run(read, sink)
+            }
         }
     }
 
@@ -86,39 +90,48 @@ impl Session {
     fn run<K: Sink>(&mut self, line: Line, sink: &mut K) -> Result<(), End>
         requires { MayRun self.old.settings self.old.scenario self.old.cluster line }
         ensures ready { OnOk result (IsReady self.new.settings self.new.scenario self.new.cluster.journal) }
-        ensures ends { IfErr result IsLack }
+        ensures runs { OnOk result ((text : List ℕ) (before : List (List ℕ)) (start : Option (List ℕ)) → HasRead line text before start self.old (K.written sink.old) → HasRun (text ∷ before) start self.new (K.written sink.new)) }
+        ensures stops { IfErr result (λ e. (text : List ℕ) (before : List (List ℕ)) (start : Option (List ℕ)) → HasRead line text before start self.old (K.written sink.old) → StopsAt e text before start self.new.cluster.journal (K.written sink.new)) }
+        ensures ends { IfErr result EndsLines }
         ensures failed { result ≡ Err End.Write → CountsFault (K.faults sink.old) (K.faults sink.new) K.most_faults }
         ensures never_falls { K.faults sink.old ≤ K.faults sink.new }
     {
         match line {
             Line::Skipped | Line::Sql(_) => Ok(()),
-            Line::Cluster(settings) => self.set(settings),
-            Line::Node(_, clock) => self.place(clock),
+            Line::Cluster(settings) => {
+                self.set(settings);
+                Ok(())
+            }
+            Line::Node(_, clock) => {
+                self.place(clock);
+                Ok(())
+            }
             Line::Event(event) => self.run_event(&event, sink),
         }
     }
 
     /// Takes the settings of a `cluster` line.
-    fn set(&mut self, settings: Settings) -> Result<(), End>
+    fn set(&mut self, settings: Settings)
         requires fits { AreSettings settings }
-        requires ready { IsReady self.old.settings self.old.scenario self.old.cluster.journal }
+        requires unbegun { self.old.scenario.expected ≢ expecteds.Transaction }
+        requires empty { self.old.cluster.journal ≡ [] }
         ensures ready { IsReady self.new.settings self.new.scenario self.new.cluster.journal }
-        ensures ok { IsOk result }
+        ensures runs { (text : List ℕ) (before : List (List ℕ)) (start written : Option (List ℕ)) → HasRead (lines.Cluster settings) text before start self.old written → HasRun (text ∷ before) start self.new written }
     {
         self.settings = settings;
-        Ok(())
+        self.cluster = Cluster::new(self.alloc, settings, 0);
     }
 
     /// Makes the cluster of the node whose physical clock this is.
-    fn place(&mut self, clock: u64) -> Result<(), End>
+    fn place(&mut self, clock: u64)
         requires clock { clock < 2 ^ 53 }
         requires fits { AreSettings self.old.settings }
         requires unbegun { self.old.scenario.expected ≢ expecteds.Transaction }
+        requires empty { self.old.cluster.journal ≡ [] }
         ensures ready { IsReady self.new.settings self.new.scenario self.new.cluster.journal }
-        ensures ok { IsOk result }
+        ensures runs { (info : NodeInfo) (text : List ℕ) (before : List (List ℕ)) (start written : Option (List ℕ)) → HasRead (lines.Node info clock) text before start self.old written → HasRun (text ∷ before) start self.new written }
     {
         self.cluster = Cluster::new(self.alloc, self.settings, clock);
-        Ok(())
     }
 
     /// Runs a line from `begin` on.
@@ -127,39 +140,15 @@ impl Session {
         requires step { IsStep self.old.cluster event.now }
         requires begun { self.old.scenario.expected ≡ expecteds.Transaction }
         ensures ready { OnOk result (IsReady self.new.settings self.new.scenario self.new.cluster.journal) }
-        ensures ends { IfErr result IsLack }
+        ensures runs { OnOk result ((text : List ℕ) (before : List (List ℕ)) (start : Option (List ℕ)) → HasRead (lines.Event event.now) text before start self.old (K.written sink.old) → HasRun (text ∷ before) start self.new (K.written sink.new)) }
+        ensures stops { IfErr result (λ e. (text : List ℕ) (before : List (List ℕ)) (start : Option (List ℕ)) → HasRead (lines.Event event.now) text before start self.old (K.written sink.old) → StopsAt e text before start self.new.cluster.journal (K.written sink.new)) }
+        ensures ends { IfErr result EndsLines }
         ensures failed { result ≡ Err End.Write → CountsFault (K.faults sink.old) (K.faults sink.new) K.most_faults }
         ensures never_falls { K.faults sink.old ≤ K.faults sink.new }
     {
         let made = self.cluster.journal().len();
         self.cluster.step(self.lines, event)?;
-        write_from(
-            self.alloc,
-            &self.scenario,
-            self.cluster.journal(),
-            made,
-            sink,
-        )
+        let fresh = entries_after(self.cluster.journal(), made);
+        write_entries(self.alloc, self.scenario.names(), fresh, sink)
     }
-}
-
-/// Writes the text of each entry from the one at this place on.
-fn write_from<K: Sink>(
-    alloc: Global,
-    scenario: &Scenario,
-    journal: &[JournalEntry],
-    made: usize,
-    sink: &mut K,
-) -> Result<(), End>
-    ensures ends { IfErr result IsLack }
-    ensures failed { result ≡ Err End.Write → CountsFault (K.faults sink.old) (K.faults sink.new) K.most_faults }
-    ensures never_falls { K.faults sink.old ≤ K.faults sink.new }
-{
-    for entry in journal.iter().skip(made) {
-        let text = text_of(alloc, scenario.names(), entry, Mode::Answers)?;
-        if write_all(sink, text.as_slice()).is_err() {
-            return Err(End::Write);
-        }
-    }
-    Ok(())
 }

@@ -38,12 +38,33 @@ ack t2 1000.1.2
 fault t3 1000.2.3 23505
 ";
 
+/// Comments, of 16,777,216 bytes in all.
+fn largest_scenario(alloc: Global) -> Result<Vec<u8>, Fail> {
+    let mut scenario = Vec::new(alloc);
+    for _ in 0..1_048_576u32 {
+        scenario.extend_from_slice(b"# of 16 bytes..\n")?;
+    }
+    Ok(scenario)
+}
+
+/// Whether this is the report of the first so many bytes of the scenario: a line that was cut off may be
+/// a fault, and what was written before is a part of the whole report.
+fn is_report_of(alloc: Global, count: usize, written: &[u8], status: u8) -> Result<bool, Fail> {
+    let lines = SCENARIO.iter().take(count).filter(|b| **b == b'\n').count();
+    let fault = format!(in alloc; "! S1 line {}\n", lines.saturating_add(1))?;
+    Ok(match (status, written.strip_suffix(fault.as_bytes())) {
+        (0, None) => REPORT.starts_with(written),
+        (1, Some(front)) => REPORT.starts_with(front),
+        _ => false,
+    })
+}
+
 #[test]
 fn reports_are_written(rt: HostRuntime) -> Result<(), Fail> {
     let alloc = rt.alloc();
     let none: [u32; 0] = [];
     let first: [u32; 1] = [1];
-    let cases: [(&[u8], &[u32], &[u8], u8); 5] = [
+    let cases: [(&[u8], &[u32], &[u8], u8); 7] = [
         (SCENARIO, none.as_slice(), REPORT, 0),
         (b"", none.as_slice(), b"", 0),
         (
@@ -52,7 +73,14 @@ fn reports_are_written(rt: HostRuntime) -> Result<(), Fail> {
             b"! S1 line 4\n",
             1,
         ),
+        (
+            b"cluster\r\nnode n1 us-east a 1000\nsql CREATE DATABASE d\nsql CREATE TABLE t (id INT PRIMARY KEY)\nbegin\ntick all 1\n",
+            none.as_slice(),
+            b"! S1 line 6\n",
+            1,
+        ),
         (b"cluster\ncluster\n", none.as_slice(), b"! S1 line 2\n", 1),
+        (b"cluster\r", none.as_slice(), b"! S1 line 1\n", 1),
         (SCENARIO, first.as_slice(), b"", 3),
     ];
     for (scenario, reads, written, status) in cases {
@@ -60,7 +88,32 @@ fn reports_are_written(rt: HostRuntime) -> Result<(), Fail> {
         assert!(rt; bytes.as_slice() == written);
         assert!(rt; answered == status);
     }
-    let (_, answered) = report(alloc, SCENARIO, none.as_slice(), [2].as_slice())?;
+    let (bytes, answered) = report(alloc, SCENARIO, none.as_slice(), [2].as_slice())?;
+    assert!(rt; bytes.as_slice() == b"ack t1 1000.0.1\n= insert 1\n".as_slice());
     assert!(rt; answered == 4);
+    Ok(())
+}
+
+#[test]
+fn a_scenario_may_be_cut_anywhere(rt: HostRuntime) -> Result<(), Fail> {
+    let alloc = rt.alloc();
+    let none: [u32; 0] = [];
+    for count in 0..SCENARIO.len() {
+        let (bytes, status) = report(alloc, &SCENARIO[..count], none.as_slice(), none.as_slice())?;
+        assert!(rt; is_report_of(alloc, count, bytes.as_slice(), status)?);
+    }
+    Ok(())
+}
+
+#[test]
+fn one_byte_more_than_the_largest_is_too_large(rt: HostRuntime) -> Result<(), Fail> {
+    let alloc = rt.alloc();
+    let none: [u32; 0] = [];
+    let mut scenario = largest_scenario(alloc)?;
+    let (bytes, status) = report(alloc, scenario.as_slice(), none.as_slice(), none.as_slice())?;
+    assert!(rt; bytes.is_empty() && status == 0);
+    scenario.push(b'#')?;
+    let (bytes, status) = report(alloc, scenario.as_slice(), none.as_slice(), none.as_slice())?;
+    assert!(rt; bytes.as_slice() == b"! size\n".as_slice() && status == 7);
     Ok(())
 }

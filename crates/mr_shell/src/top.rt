@@ -1,9 +1,12 @@
 //! The call that the program makes.
 
-ghost use Rattle.std.specs.Prelude.{◌≡◌, ◌↔◌, ◌≤◌, ◌⊎◌, []};
+ghost use Rattle.std.specs.Prelude.{◌≡◌, ◌↔◌, ◌≤◌, ◌⊎◌, ℕ, [], take};
 ghost use Rattle.mr_io.specs.Faults.{CountsFault};
-ghost use Rattle.mr_shell.specs.Ends.{IsStatus, IsRunStatus, EndsPieces};
+ghost use Rattle.mr_shell.specs.Ends.{IsStatus, EndsPieces, status_of};
+ghost use Rattle.mr_shell.specs.Run.{AfterTaking, EndsWith, EndsShort, HasEnded, IsFaultless};
+ghost use Rattle.mr_shell.specs.Texts.{IsTold, Says, Wrote, last_line, usage_line};
 ghost use Rattle.mr_shell.specs.Words.{IsRun};
+ghost use Rattle.mr_shell.specs.declared.outcome.End.{End};
 
 use crate::commands::{Command, command_of};
 use crate::outcome::{End, Outcome};
@@ -30,8 +33,25 @@ pub fn top<S: Source, K: Sink>(
     // Words that are no command, where the line that says so could be written.
     ensures usage { result.status ≡ 2 → ¬ IsRun words.now }
     ensures no_command { ¬ IsRun words.now → (result.status ≡ 2) ⊎ (result.status ≡ 4) }
-    // Without a command nothing is run.
+    // Without a command nothing is read or run, and that line alone is written.
     ensures nothing_run { ¬ IsRun words.now → result.journal ≡ [] }
+    ensures nothing_read { ¬ IsRun words.now → source.new ≡ source.old }
+    ensures usage_written { result.status ≡ 2 → Wrote (K.written sink.old) (K.written sink.new) usage_line }
+    ensures usage_unwritten { ¬ IsRun words.now → result.status ≡ 4 → (count : ℕ) × Wrote (K.written sink.old) (K.written sink.new) (take count usage_line) }
+    // The source was read to its end, every line was run, and the journal's text was written.
+    ensures whole { result.status ≡ 0 → AfterTaking (S.left source.old) (S.left source.new) (λ taken. EndsWith End.Whole taken (S.left source.new) (K.written sink.old) result.journal (K.written sink.new)) }
+    // A line has a fault. The lines before it were run, and the journal's text was written and the line's number.
+    ensures faulty { result.status ≡ 1 → (number : ℕ) × AfterTaking (S.left source.old) (S.left source.new) (λ taken. EndsWith (End.Fault 1 number) taken (S.left source.new) (K.written sink.old) result.journal (K.written sink.new)) }
+    // A read failed. All whole lines that were taken were run, and the journal's text was written.
+    ensures unread { result.status ≡ 3 → AfterTaking (S.left source.old) (S.left source.new) (λ taken. EndsWith End.Read taken (S.left source.new) (K.written sink.old) result.journal (K.written sink.new)) }
+    // A write failed. Only the last line that was run may be shown in part or not at all, and then no more was run.
+    ensures unwritten { IsRun words.now → result.status ≡ 4 → AfterTaking (S.left source.old) (S.left source.new) (λ taken. HasEnded End.Write taken (S.left source.new) (K.written sink.old) result.journal (K.written sink.new)) }
+    // Memory ran out. The last line that was run may be shown by its first entries only.
+    ensures short { result.status ≡ 5 → AfterTaking (S.left source.old) (S.left source.new) (λ taken. EndsShort taken (S.left source.new) (K.written sink.old) result.journal (K.written sink.new)) }
+    // One byte more than the largest scenario was taken, and the lines before it were run.
+    ensures too_large { result.status ≡ 7 → AfterTaking (S.left source.old) (S.left source.new) (λ taken. EndsWith End.Size taken (S.left source.new) (K.written sink.old) result.journal (K.written sink.new)) }
+    // A scenario without a fault that isn't too large is run whole, where memory is found and no call fails.
+    ensures complete { IsRun words.now → IsFaultless (S.left source.old) → ¬ CountsFault (S.faults source.old) (S.faults source.new) S.most_faults → ¬ CountsFault (K.faults sink.old) (K.faults sink.new) K.most_faults → (result.status ≡ 0) ⊎ (result.status ≡ 5) }
     // A read that failed was counted, and so was a write.
     ensures read_failed { result.status ≡ 3 → CountsFault (S.faults source.old) (S.faults source.new) S.most_faults }
     ensures write_failed { result.status ≡ 4 → CountsFault (K.faults sink.old) (K.faults sink.new) K.most_faults }
@@ -46,6 +66,8 @@ pub fn top<S: Source, K: Sink>(
 fn usage<K: Sink>(alloc: Global, sink: &mut K) -> Outcome
     ensures status { (result.status ≡ 2) ⊎ (result.status ≡ 4) }
     ensures journal { result.journal ≡ [] }
+    ensures written { result.status ≡ 2 → Wrote (K.written sink.old) (K.written sink.new) usage_line }
+    ensures unwritten { result.status ≡ 4 → (count : ℕ) × Wrote (K.written sink.old) (K.written sink.new) (take count usage_line) }
     ensures failed { result.status ≡ 4 → CountsFault (K.faults sink.old) (K.faults sink.new) K.most_faults }
 {
     let status = match write_all(sink, USAGE.as_bytes()) {
@@ -60,7 +82,7 @@ fn usage<K: Sink>(alloc: Global, sink: &mut K) -> Outcome
 
 /// Runs the scenario that the source gives.
 fn run<S: Source, K: Sink>(alloc: Global, source: &mut S, sink: &mut K) -> Outcome
-    ensures status { IsRunStatus result.status }
+    ensures ended { (end : End) × (result.status ≡ status_of end) × AfterTaking (S.left source.old) (S.left source.new) (λ taken. HasEnded end taken (S.left source.new) (K.written sink.old) result.journal (K.written sink.new)) }
     ensures read_failed { result.status ≡ 3 → CountsFault (S.faults source.old) (S.faults source.new) S.most_faults }
     ensures write_failed { result.status ≡ 4 → CountsFault (K.faults sink.old) (K.faults sink.new) K.most_faults }
 {
@@ -78,6 +100,7 @@ fn run<S: Source, K: Sink>(alloc: Global, source: &mut S, sink: &mut K) -> Outco
 /// Writes the line that says why the run ends, where there is one, and says why the run ends then.
 fn say<K: Sink>(alloc: Global, end: End, sink: &mut K) -> End
     requires { EndsPieces end }
+    ensures says { Says end result (K.written sink.old) (K.written sink.new) }
     ensures ends { EndsPieces result }
     ensures read { result ≡ End.Read → end ≡ End.Read }
     ensures failed { result ≡ End.Write → (end ≡ End.Write) ⊎ CountsFault (K.faults sink.old) (K.faults sink.new) K.most_faults }
@@ -93,8 +116,11 @@ fn say<K: Sink>(alloc: Global, end: End, sink: &mut K) -> End
     }
 }
 
-/// Writes a last line; the run ends so where it could be written.
+/// Writes the last line; the run ends so where it could be written.
 fn write_line<K: Sink>(end: End, line: &[u8], sink: &mut K) -> End
+    requires line { line.now ≡ last_line end }
+    requires told { IsTold end }
+    ensures says { Says end result (K.written sink.old) (K.written sink.new) }
     ensures ends { (result ≡ end) ⊎ (result ≡ End.Write) }
     ensures failed { result ≡ End.Write → (end ≡ End.Write) ⊎ CountsFault (K.faults sink.old) (K.faults sink.new) K.most_faults }
     ensures never_falls { K.faults sink.old ≤ K.faults sink.new }

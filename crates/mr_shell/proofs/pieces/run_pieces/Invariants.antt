@@ -1,16 +1,17 @@
-use Rattle.std.proofs.Common.{◌≤◌, ◌-◌, ◌≡◌}
-use Rattle.std.specs.Prelude.{vec_len}
-use Rattle.mr_shell.specs.Session.{IsReady}
+use Rattle.std.proofs.Common.{◌≤◌, ◌-◌, ◌≡◌, ℕ, List, length}
+use Rattle.std.specs.Io.KnownBytes.{prepend_known}
+use Rattle.mr_shell.specs.Session.{HasTaken, IsReady}
 use Rattle.mr_shell.proofs.pieces.run_pieces.Given as goal
 
-abbrev pub invariant-loop-taken : goal.invariant-loop-taken
-invariant-loop-taken g l =
+abbrev pub invariant-pieces : goal.invariant-pieces
+invariant-pieces g l =
     record {
       ready : IsReady l.session.settings l.session.scenario l.session.cluster.journal;
       reads : g.S.Source.faults l.initial.source ≤ g.S.Source.faults l.source;
       writes : g.K.Sink.faults l.initial.sink ≤ g.K.Sink.faults l.sink;
-      room : vec_len l.buffer ≡ 65536;
+      bounded : l.taken ≤ 16777216;
+      so_far : (bytes : List ℕ) × (g.S.Source.left l.initial.source ≡ prepend_known bytes (g.S.Source.left l.source)) × (length bytes ≡ l.taken) × HasTaken bytes (g.K.Sink.written l.initial.sink) l.session l.pending.items (g.K.Sink.written l.sink);
     }
 
-abbrev pub decreases-loop-taken : goal.decreases-loop-taken
-decreases-loop-taken g l = 16777217 - l.taken
+abbrev pub decreases-pieces : goal.decreases-pieces
+decreases-pieces g l = 16777217 - l.taken

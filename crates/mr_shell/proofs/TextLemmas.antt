@@ -1,0 +1,43 @@
+-- The text of entries, as they are written one after the other.
+use Rattle.std.proofs.Common.{◌≡◌, ℕ, ◌+◌, ◌<◌, ◌≤◌, List, [], ◌∷◌, ◌++◌, Option, refl, ap, sym, ◌∙◌, append_assoc, length, take, drop, get_or, take-append-drop, take-take, true, arith}
+use Rattle.std.specs.List.{flat_map}
+use Rattle.std.specs.Prelude.{Result, Ok, Err, OnErr}
+use Rattle.std.specs.Result.{is_err}
+use Rattle.std.proofs.lemmas.List.{drop_more, take-append-le}
+use Rattle.std.proofs.Math.Seq.{take-append-add}
+use Rattle.std.specs.Io.KnownBytes.{append_known}
+use Rattle.mr_io.specs.Pieces.{WrotePrefix}
+use Rattle.mr_io.proofs.Told.{append_known-append}
+use Rattle.scenario.specs.EntryText.{entry_text}
+use Rattle.scenario.specs.declared.entries.JournalEntry.{JournalEntry}
+use Rattle.scenario.specs.declared.lines.Mode.TheVariants as mode
+use Rattle.mr_shell.proofs.RunLemmas.{texts-append, wrote-more}
+use Rattle.mr_shell.specs.Texts.{ShowsSome, Wrote, texts}
+use Rattle.mr_shell.specs.declared.outcome.End.TheVariants as ends
+
+-- entries up to the one at i were written
+pub some_entries : (names : List (List ℕ)) (entries : List JournalEntry) (i : ℕ) (start written : Option (List ℕ)) → Wrote start written (texts names (take i entries)) → ShowsSome ends.Memory names entries start written
+some_entries names entries i start written w = (take i entries, drop i entries, sym (take-append-drop i entries), w)
+
+-- what is known of a result that is an error
+pub at_err : {T E P : Type 0} (r : Result T E) → is_err r ≡ true → OnErr r P → P
+at_err (Ok x) e h = cc
+at_err (Err x) e h = h
+
+-- the text of entries, up to one of them, its own, and what follows
+split_texts : (names : List (List ℕ)) (entries : List JournalEntry) (i : ℕ) (e : JournalEntry) → i < length entries → e ≡ get_or entries i e → texts names entries ≡ texts names (take i entries) ++ (entry_text names mode.Answers e ++ texts names (drop (i + 1) entries))
+split_texts names entries i e h is =
+    ap (texts names) (sym (take-append-drop i entries)) ∙ (texts-append names (take i entries) (drop i entries) ∙ ap (λ (l : List ℕ). texts names (take i entries) ++ l) (ap (texts names) (drop_more entries i e h ∙ ap (λ (x : JournalEntry). x ∷ drop (i + 1) entries) (sym is))))
+
+-- a write failed, of the entry at i
+pub some_text : (names : List (List ℕ)) (entries : List JournalEntry) (i : ℕ) (e : JournalEntry) (text : List ℕ) (start mid written : Option (List ℕ)) → i < length entries → e ≡ get_or entries i e → text ≡ entry_text names mode.Answers e → Wrote start mid (texts names (take i entries)) → WrotePrefix mid written text → ShowsSome ends.Write names entries start written
+some_text names entries i e text start mid written h is shows w p =
+    let shown = texts names (take i entries) in
+    let front : take (length shown + p.0) (texts names entries) ≡ shown ++ take p.0 text =
+    ap (take (length shown + p.0)) (split_texts names entries i e h is) ∙ (take-append-add shown (entry_text names mode.Answers e ++ texts names (drop (i + 1) entries)) p.0
+    ∙ ap (λ (l : List ℕ). shown ++ l) (ap (λ (l : List ℕ). take p.0 (l ++ texts names (drop (i + 1) entries))) (sym shows) ∙ take-append-le p.0 text (texts names (drop (i + 1) entries)) p.1)) in
+    (length shown + p.0, wrote-more start mid written shown (take p.0 text) w p.2 ∙ ap (append_known start) (sym front))
+
+-- the first bytes of a piece that stands at the front of a buffer
+pub take_front : (n m : ℕ) (xs ys : List ℕ) → n ≤ length xs → length xs ≤ m → take n (take m (xs ++ ys)) ≡ take n xs
+take_front n m xs ys h k = take-take n m (xs ++ ys) (omega (arith, h, k)) ∙ take-append-le n xs ys h

@@ -1,0 +1,38 @@
+use Rattle.std.specs.Prelude.{◌≡◌, ℕ, ◌+◌, List, [], ◌∷◌, false, length}
+use Rattle.run_laws.specs.LinesRun.{LinesRun, no_lines, with_line}
+use Rattle.scenario.specs.Lines.{Reads, HasNoLine, the_standard_settings}
+use Rattle.scenario.specs.Seen.{Seen}
+use Rattle.scenario.specs.declared.lines.Line.{Line}
+use Rattle.scenario.specs.declared.lines.Line.TheVariants as lines
+use Rattle.scenario.specs.declared.reader.Expected.TheVariants as expected
+
+-- What the lines of a scenario tell: what is kept of them to read the next one, and what the cluster runs.
+pub record Story : Type 0 where
+  pub seen : Seen
+  pub run : LinesRun
+
+-- Nothing was read yet.
+abbrev pub no_story : Story
+no_story = record {
+  seen = record { zones_only = false; expected = expected.Cluster; names = [] };
+  run = no_lines the_standard_settings 0;
+}
+
+-- What the cluster runs once this line, of this number, was read.
+abbrev pub run_with : LinesRun → ℕ → Line → LinesRun
+run_with s number (lines.Cluster settings) = no_lines settings 0
+run_with s number (lines.Node info clock) = no_lines s.settings clock
+run_with s number (lines.Event e) = with_line s number e
+run_with s number _ = s
+
+-- These lines, the newest first, are read one after the other from the start, none of them with a fault,
+-- and this is what they tell.
+abbrev pub Tells : List (List ℕ) → Story → Type 0
+Tells [] story = story ≡ no_story
+Tells (text ∷ before) story =
+    (earlier : Story) × Tells before earlier × (line : Line) × Reads earlier.seen text line story.seen
+    × (story.run ≡ run_with earlier.run (length before + 1) line)
+
+-- The next line has this fault.
+abbrev pub HasFault : Story → List ℕ → ℕ → Type 0
+HasFault story text fault = (fault ≡ 1) × HasNoLine story.seen text
