@@ -1,4 +1,5 @@
 use super::*;
+use mr_base::{Bytes, CloneIn};
 use std::alloc::Global;
 use std::test::*;
 
@@ -319,5 +320,15 @@ fn digits(rt: HostRuntime) -> Result<(), Fail> {
             assert_eq!(rt; place_in_list(rt.alloc(), &text), expected);
         }
     }
+    Ok(())
+}
+
+#[test]
+fn localities_and_types_are_copied(rt: HostRuntime) -> Result<(), Fail> {
+    let alloc = rt.alloc();
+    let region = Bytes::from_slice(alloc, b"r")?;
+    let locality = Locality::InRegion { region };
+    assert!(rt; locality.clone_in(alloc).is_ok());
+    assert!(rt; ColumnType::Bool.clone_in(alloc).is_ok());
     Ok(())
 }
