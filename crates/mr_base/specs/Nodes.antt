@@ -1,4 +1,4 @@
-use Rattle.std.specs.Prelude.{◌≡◌, ℕ, ◌<◌, ◌≤◌, ◌-◌, count_ones, IsBitSet}
+use Rattle.std.specs.Prelude.{ℕ, ◌≤◌, ◌-◌, count_ones, IsBitSet}
 use Rattle.mr_base.specs.declared.ids.NodeId.{NodeId}
 use Rattle.mr_base.specs.declared.nodes.NodeSet.{NodeSet}
 

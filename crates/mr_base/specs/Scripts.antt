@@ -1,4 +1,4 @@
-use Rattle.std.specs.Prelude.{◌≡◌, ℕ, ◌<◌, ◌⊎◌, ◌++◌, ◌∷◌, [], List, ⊤, length, slice_get, Option, Some, None}
+use Rattle.std.specs.Prelude.{◌≡◌, ℕ, ◌<◌, ◌⊎◌, List, ⊤, length, slice_get, Option, Some, None}
 use Rattle.mr_base.specs.declared.script.Need.{Need}
 use Rattle.mr_base.specs.declared.script.Need.TheVariants as need
 use Rattle.mr_base.specs.declared.script.Fed.{Fed}

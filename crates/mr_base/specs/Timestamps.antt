@@ -1,4 +1,4 @@
-use Rattle.std.specs.Prelude.{◌≡◌, ℕ, ◌<◌, ◌⊎◌, Bool, true, false, List, ◌++◌, ◌∷◌, nat_lt, ◌==◌, ◌&&◌, ◌||◌, if◌then◌else◌, codes}
+use Rattle.std.specs.Prelude.{◌≡◌, ℕ, ◌<◌, ◌⊎◌, Bool, List, ◌++◌, nat_lt, ◌==◌, ◌&&◌, ◌||◌, if◌then◌else◌, codes}
 use Rattle.std.specs.Fmt.{decimal}
 use Rattle.mr_base.specs.declared.timestamps.Ts.{Ts}
 use Rattle.mr_base.specs.declared.timestamps.Reading.{Reading}
@@ -31,3 +31,6 @@ IsTransitive = (a b c : Ts) → IsBelow a b → IsBelow b c → IsBelow a c
 
 abbrev pub IsTotal : Type 0
 IsTotal = (a b : Ts) → IsBelow a b ⊎ ((a ≡ b) ⊎ IsBelow b a)
+
+abbrev pub IsLeast : Ts → Type 0
+IsLeast a = (b : Ts) → ¬ IsBelow b a

@@ -21,7 +21,7 @@ pub use ids::{AttemptId, MsgId, NodeId, RangeId, TxnId};
 pub use list::ListOf;
 pub use memory::{CloneIn, Memory};
 pub use messages::{Body, Fate, Known, Message, Reply, Request};
-pub use nodes::{NodeInfo, NodeSet};
+pub use nodes::{NodeInfo, NodeSet, nodes_of_the_empty_set};
 pub use rows::{Datum, EvalFault, Row, RowList};
 pub use script::{Fed, FixedScript, Need, Script};
 pub use settings::{Kind, Settings};

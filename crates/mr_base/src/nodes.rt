@@ -1,6 +1,7 @@
 //! Sets of nodes, and what a scenario says of a node.
 
 ghost use Rattle.std.specs.Prelude.{◌≡◌, ◌↔◌, ◌≤◌, ◌⊎◌, IsTrue, IfOk};
+ghost use Rattle.mr_base.specs.Nodes.{IsMember, IsNode, nodes_in};
 ghost use Rattle.mr_base.specs.declared.ids.NodeId.{NodeId};
 
 use crate::byte_string::Bytes;
@@ -21,8 +22,6 @@ pub struct NodeInfo {
 }
 
 impl NodeSet {
-    ghost use Rattle.mr_base.specs.Nodes.{IsMember, IsNode, nodes_in};
-
     /// The set without nodes.
     pub const EMPTY: NodeSet = NodeSet(0);
 
@@ -49,6 +48,12 @@ impl NodeSet {
         self.0.count_ones()
     }
 }
+
+/// The empty set has no node.
+pub fn nodes_of_the_empty_set()
+    ensures none { (n : NodeId) → ¬ IsMember NodeSet.EMPTY n }
+    ensures count { nodes_in NodeSet.EMPTY ≡ 0 }
+{}
 
 impl CloneIn for NodeInfo {
     fn clone_in(&self, alloc: Global) -> Result<NodeInfo, Memory> {

@@ -95,6 +95,9 @@ impl FixedScript {
     pub fn new(alloc: Global, asks: ListOf<Ask>, writes: ListOf<Write>) -> FixedScript
         ensures made { ⟦<FixedScript as Script>⟧.program result ≡ fixed asks writes }
         ensures unfed { ⟦<FixedScript as Script>⟧.fed result ≡ [] }
+        ensures not_done { ⟦<FixedScript as Script>⟧.done result ≡ false }
+        ensures phases { ⟦<FixedScript as Script>⟧.phases result ≡ length asks }
+        ensures asks { ⟦<FixedScript as Script>⟧.asks result ≡ 0 }
     {
         FixedScript {
             alloc,

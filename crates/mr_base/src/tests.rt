@@ -26,6 +26,35 @@ fn copies_are_made(rt: HostRuntime) -> Result<(), Fail> {
     Ok(())
 }
 
+fn is_copied<T: CloneIn>(alloc: Global, value: &T) -> bool {
+    value.clone_in(alloc).is_ok()
+}
+
+#[test]
+fn numbers_pairs_and_fates_are_copied(rt: HostRuntime) -> Result<(), Fail> {
+    let alloc = rt.alloc();
+    let pair = Pair {
+        key: key(alloc)?,
+        value: key(alloc)?,
+    };
+    let known = Known {
+        attempt: AttemptId(1),
+        fate: Fate::Aborted,
+    };
+    let copied = [
+        is_copied(alloc, &pair),
+        is_copied(alloc, &known),
+        is_copied(alloc, &RangeId(1)),
+        is_copied(alloc, &MsgId(1)),
+        is_copied(alloc, &1u32),
+        is_copied(alloc, &1usize),
+    ];
+    for is_copy in copied {
+        assert!(rt; is_copy);
+    }
+    Ok(())
+}
+
 #[test]
 fn messages_are_copied(rt: HostRuntime) -> Result<(), Fail> {
     let alloc = rt.alloc();

@@ -1,7 +1,7 @@
 //! Timestamps and clock readings.
 
 ghost use Rattle.std.specs.Prelude.{◌≡◌, ◌↔◌, ◌+◌, ◌<◌, ◌^◌, IsTrue, Some};
-ghost use Rattle.mr_base.specs.Timestamps.{IsIrreflexive, IsTransitive, IsTotal};
+ghost use Rattle.mr_base.specs.Timestamps.{IsIrreflexive, IsLeast, IsTransitive, IsTotal};
 
 use std::fmt;
 
@@ -91,9 +91,10 @@ impl fmt::Display for Ts {
     }
 }
 
-/// The order of timestamps is total, and nothing is below itself.
+/// The order of timestamps is total, nothing is below itself, and nothing below the least.
 pub fn order_of_timestamps()
     ensures irreflexive { IsIrreflexive }
     ensures transitive { IsTransitive }
     ensures total { IsTotal }
+    ensures least { IsLeast Ts.ZERO }
 {}

@@ -4,3 +4,6 @@
 mod entries;
 
 pub use entries::{Entry, Lease, RetryCause, TxnState};
+
+#[cfg(test)]
+mod tests;

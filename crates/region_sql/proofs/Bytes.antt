@@ -1,12 +1,12 @@
 -- Runs of bytes, digits and what stands in quotes.
-use Rattle.std.proofs.Common.{◌≡◌, ℕ, ◌^◌, ◌<◌, ◌≤◌, true, false, List, [], ◌∷◌, ◌++◌, length, get_or, take, Option, Some, None, refl, sym, ap, ◌∙◌, append_assoc, arith}
+use Rattle.std.proofs.Common.{◌≡◌, ℕ, ◌^◌, ◌<◌, ◌≤◌, Bool, true, false, List, [], ◌∷◌, ◌++◌, length, get_or, take, min, Option, Some, None, refl, sym, ap, ◌∙◌, append_assoc, arith}
 use Rattle.std.specs.List.{prefix_len}
 use Rattle.std.specs.Char.{is_ascii_digit}
 use Rattle.std.proofs.Math.Nat.{pow-le-pow_right}
 use Rattle.std.proofs.lemmas.List.{get_or-take, length-take}
 use Rattle.std.proofs.lemmas.Str.{is_utf8-from_IsUtf8, IsUtf8-from_is_utf8}
 use Rattle.std.specs.Str.{IsUtf8, is_utf8}
-use Rattle.std.proofs.lemmas.List.Sums.{prefix_len_is, prefix_len_passes}
+use Rattle.std.proofs.lemmas.List.Sums.{prefix_len_is, prefix_len_passes, prefix_len_stops, prefix_len-le-length}
 use Rattle.region_sql.specs.declared.byte_classes.ByteClass.{ByteClass}
 use Rattle.region_sql.specs.Lexing.{is_in_class, with_byte}
 
@@ -35,6 +35,21 @@ pub run_digits : (bytes front : List ℕ) (n : ℕ) → n ≤ prefix_len is_asci
 run_digits bytes front n le e k lt =
     let small : k < n = omega (arith, ap length e, length-take n bytes) in
     ap (λ (xs : List ℕ). is_ascii_digit (get_or xs k 0)) e ∙ ap is_ascii_digit (get_or-take n bytes k 0 small) ∙ prefix_len_passes is_ascii_digit bytes k 0 (omega arith)
+
+-- A run in the front of a list is the run of the list, but no longer than the front.
+front_run : (p : ℕ → Bool) (n : ℕ) (xs : List ℕ) → prefix_len p (take n xs) ≡ min n (prefix_len p xs)
+front_run p n xs =
+    prefix_len_is p (take n xs) (min n (prefix_len p xs)) 0
+    (omega (arith, length-take n xs, prefix_len-le-length p xs))
+    (λ k lt. ap p (get_or-take n xs k 0 (omega arith)) ∙ prefix_len_passes p xs k 0 (omega arith))
+    (λ lt.
+    let whole : min n (prefix_len p xs) ≡ prefix_len p xs = omega (arith, length-take n xs, lt) in
+    let within : prefix_len p xs < n = omega (arith, length-take n xs, lt) in
+    let inside : prefix_len p xs < length xs = omega (arith, length-take n xs, lt) in
+    ap (λ (k : ℕ). p (get_or (take n xs) k 0)) whole ∙ ap p (get_or-take n xs (prefix_len p xs) 0 within) ∙ prefix_len_stops p xs 0 inside)
+
+pub few_digits : (bytes : List ℕ) → prefix_len is_ascii_digit (take (min (length bytes) 30) bytes) ≡ min 30 (prefix_len is_ascii_digit bytes)
+few_digits bytes = omega (arith, front_run is_ascii_digit (min (length bytes) 30) bytes, prefix_len-le-length is_ascii_digit bytes)
 
 pub is_text : (bs : List ℕ) → IsUtf8 bs → true ≡ is_utf8 bs
 is_text bs h = sym (is_utf8-from_IsUtf8 bs h)

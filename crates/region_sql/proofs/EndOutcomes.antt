@@ -1,13 +1,12 @@
 -- The same of lists that may end with their separator.
-use Rattle.std.proofs.Common.{◌≡◌, ◌⊎◌, ◌≤◌, ◌<◌, ◌+◌, ◌-◌, ℕ, zero, suc, Bool, true, false, cond, ◌||◌, List, [], ◌∷◌, ◌++◌, length, Option, Some, None, Result, Ok, Err, refl, sym, ap, subst, ◌∙◌, inl, inr, nat_eq, append_assoc, arith, eq-eqb}
+use Rattle.std.proofs.Common.{◌≡◌, ◌≤◌, ◌<◌, ◌-◌, ℕ, zero, suc, Bool, true, false, cond, List, [], ◌∷◌, ◌++◌, length, Result, Ok, Err, refl, sym, ap, subst, ◌∙◌, inl, inr, nat_eq, append_assoc, arith}
 use Rattle.std.proofs.lemmas.Bool.{eqb-true}
-use Rattle.std.proofs.lemmas.List.{length-append, append-nil, nil_from_length}
 use Rattle.region_sql.specs.declared.tokens.Token.{Token}
 use Rattle.region_sql.specs.Tokens.{kind_of}
-use Rattle.region_sql.specs.Forms.{AreListed, AreEnded}
-use Rattle.region_sql.specs.Reading.{◌>>=◌, begins, more_at, listed_at, onward_at, ended_at}
-use Rattle.region_sql.proofs.Exact.{listed-cons, ended-cons}
-use Rattle.region_sql.proofs.Outcomes.{Alike, alike-front, begins-alike, Viable, Reader, Outcome, Example}
+use Rattle.region_sql.specs.Forms.{AreEnded}
+use Rattle.region_sql.specs.Reading.{◌>>=◌, begins, onward_at, ended_at}
+use Rattle.region_sql.proofs.Exact.{ended-cons}
+use Rattle.region_sql.proofs.Outcomes.{Alike, alike-front, begins-alike, Reader, Outcome}
 use Rattle.region_sql.proofs.ListOutcomes.{Takes, OneRead}
 
 -- ---- lists that may end with their separator

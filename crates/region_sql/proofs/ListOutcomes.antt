@@ -1,13 +1,12 @@
 -- The same of lists.
-use Rattle.std.proofs.Common.{◌≡◌, ◌⊎◌, ◌≤◌, ◌<◌, ◌+◌, ◌-◌, ℕ, zero, suc, Bool, true, false, cond, ◌||◌, List, [], ◌∷◌, ◌++◌, length, Option, Some, None, Result, Ok, Err, refl, sym, ap, subst, ◌∙◌, inl, inr, nat_eq, append_assoc, arith, eq-eqb}
+use Rattle.std.proofs.Common.{◌≡◌, ◌≤◌, ◌<◌, ◌-◌, ℕ, zero, suc, true, false, cond, List, [], ◌∷◌, ◌++◌, length, Result, Ok, Err, refl, sym, ap, subst, ◌∙◌, nat_eq, append_assoc, arith}
 use Rattle.std.proofs.lemmas.Bool.{eqb-true}
-use Rattle.std.proofs.lemmas.List.{length-append, append-nil, nil_from_length}
 use Rattle.region_sql.specs.declared.tokens.Token.{Token}
 use Rattle.region_sql.specs.Tokens.{kind_of}
-use Rattle.region_sql.specs.Forms.{AreListed, AreEnded}
-use Rattle.region_sql.specs.Reading.{◌>>=◌, begins, more_at, listed_at, onward_at, ended_at}
-use Rattle.region_sql.proofs.Exact.{listed-cons, ended-cons}
-use Rattle.region_sql.proofs.Outcomes.{Alike, alike-front, begins-alike, Viable, Reader, Outcome, Example}
+use Rattle.region_sql.specs.Forms.{AreListed}
+use Rattle.region_sql.specs.Reading.{◌>>=◌, more_at, listed_at}
+use Rattle.region_sql.proofs.Exact.{listed-cons}
+use Rattle.region_sql.proofs.Outcomes.{Alike, Reader, Outcome}
 
 -- A reader that takes at least one token, and is stuck where there is none.
 abbrev pub Takes : {A : Type 0} → Reader A → Type 0

@@ -1,5 +1,4 @@
-use Rattle.std.proofs.Common.{◌≡◌, ℕ, ℤ, List}
-use Rattle.std.specs.Prelude.{codes}
+use Rattle.std.proofs.Common.{ℕ, ℤ, List}
 use Rattle.region_sql.specs.FirstForms.{IsFirstText}
 use Rattle.region_sql.specs.declared.first_forms.FirstStatement.{FirstStatement}
 use Rattle.region_sql.specs.declared.first_forms.FirstStatement.TheVariants.{Insert, SelectAll}

@@ -1,15 +1,10 @@
 -- What reading a form from the front of any tokens comes to: where it is stuck, some tokens of the
 -- form begin so, and what comes after the first token that it doesn't take makes no difference.
-use Rattle.std.proofs.Common.{◌≡◌, ◌⊎◌, ◌≤◌, ◌<◌, ◌+◌, ℕ, zero, suc, Bool, true, false, cond, ◌||◌, List, [], ◌∷◌, ◌++◌, length, Option, Some, None, Result, Ok, Err, refl, sym, ap, subst, ◌∙◌, inl, inr, nat_eq, append_assoc, arith, eq-eqb}
-use Rattle.std.proofs.lemmas.Bool.{eqb-true}
-use Rattle.std.proofs.lemmas.List.{length-append, append-nil, nil_from_length}
+use Rattle.std.proofs.Common.{◌≡◌, ◌⊎◌, ℕ, Bool, true, false, cond, List, [], ◌∷◌, ◌++◌, length, Option, Some, None, Result, Ok, Err, refl, sym, ap, subst, ◌∙◌, inl, inr, append_assoc}
 use Rattle.region_sql.specs.declared.tokens.Token.{Token}
 use Rattle.region_sql.specs.Tokens.{kind_of}
-use Rattle.region_sql.specs.Forms.{Form, one, as_value, both, either, maybe, listed, ended, Fits, AreListed, AreEnded}
-use Rattle.region_sql.specs.Reading.{◌>>=◌, has, begins, first, taken, one_at, more_at, listed_at, onward_at, ended_at, parse, whole}
-use Rattle.region_sql.proofs.Plain.{bind_ok, ok_is}
-use Rattle.region_sql.proofs.Good.{nullable, Good, really, fits-begins}
-use Rattle.region_sql.proofs.Exact.{listed-cons, ended-cons, fits-whole}
+use Rattle.region_sql.specs.Forms.{Form, one, as_value, both, either, maybe, listed, ended, Fits}
+use Rattle.region_sql.specs.Reading.{◌>>=◌, has, begins, taken, one_at}
 
 -- Nothing is left in both, or the same token is next.
 abbrev pub Alike : List Token → List Token → Type 0

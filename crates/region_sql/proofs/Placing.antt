@@ -1,17 +1,16 @@
 -- Where reading all of a text is stuck.
-use Rattle.std.proofs.Common.{◌≡◌, ◌⊎◌, ◌≤◌, ◌<◌, ◌+◌, ◌-◌, ℕ, zero, suc, Bool, true, false, cond, List, [], ◌∷◌, ◌++◌, length, get_or, Option, Some, None, Result, Ok, Err, refl, sym, ap, subst, ◌∙◌, inl, inr, nat_eq, append_assoc, arith}
+use Rattle.std.proofs.Common.{◌≡◌, ◌<◌, ◌+◌, ◌-◌, ℕ, suc, Bool, true, false, cond, List, [], ◌∷◌, ◌++◌, length, get_or, Some, None, Result, Ok, Err, refl, sym, ap, subst, ◌∙◌, nat_eq, append_assoc, arith}
 use Rattle.std.proofs.lemmas.Bool.{eqb-true}
 use Rattle.std.proofs.lemmas.List.{length-append, append-nil}
 use Rattle.region_sql.specs.declared.tokens.Token.{Token}
 use Rattle.region_sql.specs.Forms.{Form, one, as_value, both, either, maybe, listed, ended, Fits}
 use Rattle.region_sql.specs.Lexing.{after_blanks, token_at, Splits, Lexes, Ends}
 use Rattle.region_sql.specs.Places.{CanGoOn, IsPlace}
-use Rattle.region_sql.specs.Reading.{◌>>=◌, begins, first, parse, whole}
-use Rattle.region_sql.proofs.Plain.{ok_is}
+use Rattle.region_sql.specs.Reading.{◌>>=◌, first, parse, whole}
 use Rattle.region_sql.proofs.Good.{nullable, Good, really, fits-begins}
 use Rattle.region_sql.proofs.Exact.{sound, fits-whole, nonempty}
-use Rattle.region_sql.proofs.Lexes.{lexes-splits, some_is, ended-here}
-use Rattle.region_sql.proofs.Outcomes.{Alike, Reader, Outcome, Sampled, example, one-outcome, value-outcome, both-outcome, either-outcome, maybe-outcome}
+use Rattle.region_sql.proofs.Lexes.{lexes-splits, some_is}
+use Rattle.region_sql.proofs.Outcomes.{Alike, Outcome, Sampled, example, one-outcome, value-outcome, both-outcome, either-outcome, maybe-outcome}
 use Rattle.region_sql.proofs.ListOutcomes.{Takes, listed-outcome}
 use Rattle.region_sql.proofs.EndOutcomes.{ended-outcome}
 use Rattle.region_sql.proofs.Texts.{no-token}

@@ -1,4 +1,5 @@
 use super::*;
+use mr_base::{Bytes, CloneIn};
 use std::alloc::Global;
 use std::test::*;
 
@@ -293,5 +294,41 @@ fn sizes(rt: HostRuntime) -> Result<(), Fail> {
     assert_eq!(rt; place_in_list(rt.alloc(), &text), MANY);
     text.extend_from_slice(b"x y")?;
     assert_eq!(rt; place_in_list(rt.alloc(), &text), 64 * 14 + 14);
+    Ok(())
+}
+
+fn with_sevens(alloc: Global, head: &[u8], count: usize) -> Result<Vec<u8>, Fail> {
+    let mut text = head.to_vec(alloc)?;
+    for _ in 0..count {
+        text.push(b'7')?;
+    }
+    Ok(text)
+}
+
+/// An integer ends after 30 digits, however many follow.
+#[test]
+fn digits(rt: HostRuntime) -> Result<(), Fail> {
+    let heads: [(&[u8], usize); 3] = [
+        (b"SELECT * FROM t WHERE a = ", 56),
+        (b"SELECT * FROM t WHERE a = -", 57),
+        (b"UPDATE t SET a = b -", 50),
+    ];
+    for (head, place) in heads {
+        for count in [1, 30, 31, 60, 61, 5_000] {
+            let text = with_sevens(rt.alloc(), head, count)?;
+            let expected = if count > 30 { place } else { OK };
+            assert_eq!(rt; place_in_list(rt.alloc(), &text), expected);
+        }
+    }
+    Ok(())
+}
+
+#[test]
+fn localities_and_types_are_copied(rt: HostRuntime) -> Result<(), Fail> {
+    let alloc = rt.alloc();
+    let region = Bytes::from_slice(alloc, b"r")?;
+    let locality = Locality::InRegion { region };
+    assert!(rt; locality.clone_in(alloc).is_ok());
+    assert!(rt; ColumnType::Bool.clone_in(alloc).is_ok());
     Ok(())
 }

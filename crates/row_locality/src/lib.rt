@@ -4,3 +4,6 @@
 mod int_rows;
 
 pub use int_rows::{all_rows, int_of_value, int_point, int_row};
+
+#[cfg(test)]
+mod tests;
