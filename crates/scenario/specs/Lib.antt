@@ -1,11 +1,11 @@
 pub mod AnswerText
 pub mod CountsText
 pub mod EntryText
-pub mod Lines
+pub mod FirstPath
+pub mod FirstSeen
 pub mod LogText
 pub mod MessageText
 pub mod Names
-pub mod Seen
 pub mod StateText
 pub mod StepText
 pub mod Text

@@ -1,9 +1,9 @@
 //! Reading the lines of a scenario.
 
 ghost use Rattle.std.specs.Prelude.{◌≡◌, ◌↔◌, [], ℕ, List, IfOk, IfErr, OnErr, IfSome, IfNone, IsTrue, Contains};
-ghost use Rattle.scenario.specs.Lines.{Answers, HasNoLine, Reads, IsSkipped, IsTxnName, IsTxnLine, IsClockText, IsNodeLine, IsRead, IsTaken, the_standard_settings};
+ghost use Rattle.scenario.specs.FirstPath.{Answers, HasNoLine, Reads, IsSkipped, IsTxnName, IsTxnLine, IsClockText, IsNodeLine, IsRead, IsTaken, the_standard_settings};
 ghost use Rattle.scenario.specs.Text.{name_of};
-ghost use Rattle.scenario.specs.declared.reader.Expected.TheVariants as expected;
+ghost use Rattle.scenario.specs.declared.first_path.Expected.TheVariants as expected;
 
 use crate::events::Event;
 use crate::lines::{Line, LineFault};
@@ -29,15 +29,15 @@ pub enum Expected {
 
 /// The lines of a scenario that were read so far, as far as the next one depends on them.
 #[derive(Drop)]
-pub struct Scenario {
+pub struct FirstPath {
     alloc: Global,
     zones_only: bool,
     expected: Expected,
     names: ListOf<Bytes>,
 }
 
-impl Model for Scenario {
-    ghost use Rattle.scenario.specs.Seen.{Seen};
+impl Model for FirstPath {
+    ghost use Rattle.scenario.specs.FirstSeen.{Seen};
 
     ghost Value = { Seen };
 
@@ -133,14 +133,14 @@ fn is_used(names: &[Bytes], name: &[u8]) -> bool
     names.iter().any(|used| used.as_slice() == name)
 }
 
-impl Scenario {
-    ghost use Rattle.scenario.specs.Seen.{Seen};
+impl FirstPath {
+    ghost use Rattle.scenario.specs.FirstSeen.{Seen};
 
     /// A scenario of which nothing was read yet. With `zones_only` it is read for its ranges alone.
-    pub fn new(alloc: Global, zones_only: bool) -> Scenario
+    pub fn new(alloc: Global, zones_only: bool) -> FirstPath
         ensures { result ≡ record { zones_only = zones_only; expected = expected.Cluster; names = [] } }
     {
-        Scenario {
+        FirstPath {
             alloc,
             zones_only,
             expected: Expected::Cluster,

@@ -13,8 +13,8 @@ use Rattle.scenario.specs.declared.lines.Line.{Line}
 use Rattle.scenario.specs.declared.lines.Line.TheVariants as lines
 use Rattle.scenario.specs.declared.lines.LineFault.{LineFault}
 use Rattle.scenario.specs.declared.lines.LineFault.TheVariants as faults
-use Rattle.scenario.specs.declared.reader.Expected.TheVariants as expected
-use Rattle.scenario.specs.Seen.{Seen}
+use Rattle.scenario.specs.declared.first_path.Expected.TheVariants as expected
+use Rattle.scenario.specs.FirstSeen.{Seen}
 
 -- An empty line or a comment.
 abbrev pub IsSkipped : List ℕ → Type 0
