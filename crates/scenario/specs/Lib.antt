@@ -3,9 +3,15 @@ pub mod CountsText
 pub mod EntryText
 pub mod FirstPath
 pub mod FirstSeen
+pub mod Forms
+pub mod Judgements
+pub mod Lines
 pub mod LogText
 pub mod MessageText
+pub mod NamePlaces
 pub mod Names
+pub mod SeenNodes
 pub mod StateText
 pub mod StepText
 pub mod Text
+pub mod Words
