@@ -1,4 +1,10 @@
+pub mod AfterLemmas
 pub mod MoreNames
+pub mod NameLookups
 pub mod Names
 pub mod NamesOnly
+pub mod NodeLemmas
 pub mod NoLine
+pub mod PlaceLemmas
+pub mod Tells
+pub mod WordLemmas

@@ -2,7 +2,7 @@ use Rattle.std.proofs.Common.{◌≡◌, ℕ, List, [], ◌∷◌, ◌++◌, ref
 use Rattle.std.specs.Prelude.{◌↔◌, Bool, false, IsTrue, Contains, codes}
 use Rattle.std.proofs.lemmas.Bool.{false≢true}
 use Rattle.std.proofs.lemmas.List.Elements.{All-contains, Contains-append_right}
-use Rattle.scenario.specs.Lines.{IsNameByte, IsTxnName, IsTxnLine}
+use Rattle.scenario.specs.FirstPath.{IsNameByte, IsTxnName, IsTxnLine}
 
 blank_is_no_name_byte : (b : ℕ) → b ≡ 32 → IsNameByte b → ⊥
 blank_is_no_name_byte b e h = grind arith

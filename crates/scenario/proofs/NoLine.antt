@@ -1,10 +1,10 @@
 use Rattle.std.proofs.Common.{◌≡◌, ℕ, List, inl, inr, sym, subst}
 use Rattle.std.specs.Prelude.{Contains}
-use Rattle.scenario.specs.Lines.{HasNoLine, IsSkipped, IsNodeLine, IsTxnLine, IsTaken}
-use Rattle.scenario.specs.Seen.{Seen}
+use Rattle.scenario.specs.FirstPath.{HasNoLine, IsSkipped, IsNodeLine, IsTxnLine, IsTaken}
+use Rattle.scenario.specs.FirstSeen.{Seen}
 use Rattle.scenario.specs.declared.events.Event.TheVariants as events
 use Rattle.scenario.specs.declared.lines.Line.TheVariants as lines
-use Rattle.scenario.specs.declared.reader.Expected.TheVariants as expected
+use Rattle.scenario.specs.declared.first_path.Expected.TheVariants as expected
 use Rattle.scenario.proofs.Names.{one_txn_line}
 
 -- where the line of the node is expected, no other line is read

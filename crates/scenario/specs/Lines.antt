@@ -1,104 +1,124 @@
-use Rattle.std.specs.Prelude.{◌≡◌, ◌≢◌, ℕ, ◌<◌, ◌≤◌, ◌^◌, ◌⊎◌, List, [], ◌∷◌, ◌++◌, length, All, Contains, slice_index, codes, IsUtf8, Result, Ok, Err}
-use Rattle.std.specs.Str.Parse.{IsNumeral, digits_value}
-use Rattle.mr_base.specs.declared.settings.Settings.{Settings}
-use Rattle.mr_base.specs.declared.settings.Kind.TheVariants as kinds
-use Rattle.mr_base.specs.declared.nodes.NodeInfo.{NodeInfo}
+-- How the lines of a scenario are read. (This project's profile.)
+use Rattle.std.specs.Prelude.{◌≡◌, ℕ, ◌<◌, ◌+◌, ◌==◌, Bool, true, false, nat_lt, nat_le, if◌then◌else◌, List, [], ◌∷◌, ◌++◌, length, Option, Some, None, Result, Ok, Err, ok_or, unwrap_or}
+use Rattle.mr_base.specs.declared.ids.MsgId.{MsgId}
 use Rattle.mr_base.specs.declared.ids.NodeId.{NodeId}
+use Rattle.mr_base.specs.declared.ids.RangeId.{RangeId}
 use Rattle.mr_base.specs.declared.ids.TxnId.{TxnId}
-use Rattle.region_sql.specs.FirstForms.{IsFirstText}
-use Rattle.region_sql.specs.declared.first_forms.FirstStatement.{FirstStatement}
+use Rattle.mr_base.specs.declared.nodes.NodeInfo.{NodeInfo}
 use Rattle.scenario.specs.declared.events.Event.{Event}
 use Rattle.scenario.specs.declared.events.Event.TheVariants as events
+use Rattle.scenario.specs.declared.forms.Form.{Form}
+use Rattle.scenario.specs.declared.forms.Form.TheVariants as forms
+use Rattle.scenario.specs.declared.forms.LineName.{LineName}
 use Rattle.scenario.specs.declared.lines.Line.{Line}
 use Rattle.scenario.specs.declared.lines.Line.TheVariants as lines
-use Rattle.scenario.specs.declared.lines.LineFault.{LineFault}
-use Rattle.scenario.specs.declared.lines.LineFault.TheVariants as faults
-use Rattle.scenario.specs.declared.reader.Expected.TheVariants as expected
-use Rattle.scenario.specs.Seen.{Seen}
+use Rattle.scenario.specs.declared.seen.Seen.{Seen}
+use Rattle.scenario.specs.declared.seen_nodes.SeenNode.{SeenNode}
+use Rattle.scenario.specs.Forms.{line_name, form_of}
+use Rattle.scenario.specs.Judgements.{awaits_nothing, begins_wrongly, has_region, is_out_of_order, is_out_of_range, meets_wrong_state, misses_message, names_nothing, repeats_a_name, tick_in}
+use Rattle.scenario.specs.NamePlaces.{place_of}
+use Rattle.scenario.specs.SeenNodes.{restarted, ticked_by, with_node}
+use Rattle.scenario.specs.Words.{first_word}
 
--- An empty line or a comment.
-abbrev pub IsSkipped : List ℕ → Type 0
-IsSkipped line = (line ≡ []) ⊎ (slice_index line 0 ≡ 35)
+-- What a world tells: the messages in flight, the live ranges, the replicas that nodes hold, and the
+-- requests that transactions wait for.
+pub record Told : Type 0 where
+  pub flight : List MsgId
+  pub live : List RangeId
+  pub replicas : List (NodeId × RangeId)
+  pub awaited : List (TxnId × MsgId)
 
--- The settings where a `cluster` line names none, in milliseconds.
-abbrev pub the_standard_settings : Settings
-the_standard_settings = record { max_offset = 500; lease = 6000; lag = 3000; lead = 800; expire = 5000 }
+abbrev pub told_by : List MsgId → List RangeId → List (NodeId × RangeId) → List (TxnId × MsgId) → Told
+told_by flight live replicas awaited = record { flight = flight; live = live; replicas = replicas; awaited = awaited }
 
-abbrev pub n1 : NodeId
-n1 = record { 0 = 1 }
+-- What is seen before the first line.
+abbrev pub nothing_seen : Bool → Seen
+nothing_seen zones_only = record { zones_only = zones_only; counted = 0; stated = false; begun = false; regions = []; nodes = []; names = [] }
 
-abbrev pub the_first_node : NodeInfo
-the_first_node = record { id = n1; region = codes "us-east"; zone = codes "a" }
+-- The faults of a line whose words fit its form. The first one that applies is answered.
+unfoldable pub fault_of : Seen → Told → Form → Option ℕ
+fault_of seen told f =
+    if is_out_of_range seen f then Some 3
+    else if begins_wrongly seen f then Some 5
+    else if is_out_of_order seen f then Some 6
+    else if names_nothing seen told.live f then Some 4
+    else if repeats_a_name seen f then Some 7
+    else if misses_message told.flight f then Some 8
+    else if meets_wrong_state seen told.replicas f then Some 9
+    else if awaits_nothing seen told.awaited f then Some 12
+    else None
 
--- A clock as a line writes it: digits without leading zeros, from 1 to below 2^53 milliseconds.
-pub record IsClockText (text : List ℕ) (n : ℕ) : Type 0 where
-  pub utf8 : IsUtf8 text
-  pub digits : IsNumeral 10 text
-  pub value : digits_value 10 text ≡ n
-  pub small : n < 2 ^ 53
-  pub no_plus : slice_index text 0 ≢ 43
-  pub no_zero : slice_index text 0 ≢ 48
+abbrev pub named_form : List ℕ → Option LineName → Result Form ℕ
+named_form line None = Err 1
+named_form line (Some name) = ok_or (form_of name line) 2
 
--- node n1 us-east a CLOCK
-abbrev pub IsNodeLine : List ℕ → ℕ → Type 0
-IsNodeLine line n = (digits : List ℕ) × (line ≡ codes "node n1 us-east a " ++ digits) × IsClockText digits n
+-- What a line that isn't skipped says: at most 200,000 lines count, the first word names the line, and the
+-- other words fit its form.
+unfoldable pub said : Seen → List ℕ → Result Form ℕ
+said seen line = if nat_le 200000 seen.counted then Err 11 else named_form line (line_name (first_word line))
 
-abbrev pub IsLetter : ℕ → Type 0
-IsLetter b = (97 ≤ b) × (b ≤ 122)
+-- ---- what is seen after a line
 
-abbrev pub IsNameByte : ℕ → Type 0
-IsNameByte b = IsLetter b ⊎ (((48 ≤ b) × (b ≤ 57)) ⊎ (b ≡ 95))
+abbrev pub with_region : List (List ℕ) → List ℕ → List (List ℕ)
+with_region regions region = if has_region regions region then regions else regions ++ region ∷ []
 
--- A transaction's name has 1 to 32 characters of a-z, 0-9 and _ and begins with a letter.
-pub record IsTxnName (name : List ℕ) : Type 0 where
-  pub letter : IsLetter (slice_index name 0)
-  pub long : length name ≤ 32
-  pub plain : All IsNameByte name
+abbrev pub with_new_node : Seen → NodeInfo → ℕ → Seen
+with_new_node seen info clock =
+    record seen { nodes = seen.nodes ++ record { clock = clock; running = true } ∷ []; regions = with_region seen.regions info.region }
 
--- txn NAME n1 now LIST
-abbrev pub IsTxnLine : (line name list : List ℕ) → Type 0
-IsTxnLine line name list = (line ≡ codes "txn " ++ (name ++ 32 ∷ (codes "n1 now " ++ list))) × IsTxnName name
+abbrev pub moved : List SeenNode → Option (Option NodeId × ℕ) → List SeenNode
+moved nodes None = nodes
+moved nodes (Some tick) = ticked_by nodes tick.0 tick.1
 
--- A list that the cluster of one table takes.
-abbrev pub IsTaken : List ℕ → Type 0
-IsTaken list = (s : FirstStatement) × IsFirstText list s
+abbrev pub after_event : Seen → Event → Seen
+after_event seen events.Begin = record seen { begun = true }
+after_event seen (events.Stop node) = record seen { nodes = with_node (restarted false) seen.nodes node }
+after_event seen (events.Start node) = record seen { nodes = with_node (restarted true) seen.nodes node }
+after_event seen e = record seen { nodes = moved seen.nodes (tick_in e) }
 
--- After the lines seen so far a line is read as this event, and these lines are seen then.
-abbrev pub ReadsEvent : Seen → List ℕ → Event → Seen → Type 0
-ReadsEvent seen line events.Begin seen' =
-    (seen.expected ≡ expected.Begin) × (line ≡ codes "begin") × (seen' ≡ record seen { expected = expected.Transaction })
-ReadsEvent seen line (events.Txn t gateway kind list) seen' =
-    (seen.expected ≡ expected.Transaction) × (t ≡ record { 0 = length seen.names }) × (gateway ≡ n1) × (kind ≡ kinds.Now)
-    × (name : List ℕ) × IsTxnLine line name list × (¬ Contains seen.names name) × IsTaken list
-    × (seen' ≡ record seen { names = seen.names ++ name ∷ [] })
-ReadsEvent seen line _ seen' = ⊥
+unfoldable pub after_form : Seen → Form → Seen
+after_form seen (forms.Cluster settings) = seen
+after_form seen (forms.Node info clock) = with_new_node seen info clock
+after_form seen (forms.Sql text) = if seen.begun then seen else record seen { stated = true }
+after_form seen (forms.Txn name gateway kind list) = record seen { names = seen.names ++ name ∷ [] }
+after_form seen (forms.Timeout name) = seen
+after_form seen (forms.Event e) = after_event seen e
 
--- After the lines seen so far a line is read so, and these lines are seen then. A line that is read in
--- no way has the fault S1. (This project's profile.)
-abbrev pub Reads : Seen → List ℕ → Line → Seen → Type 0
-Reads seen line lines.Skipped seen' = IsSkipped line × (seen' ≡ seen)
-Reads seen line (lines.Cluster settings) seen' =
-    (seen.expected ≡ expected.Cluster) × (line ≡ codes "cluster") × (settings ≡ the_standard_settings)
-    × (seen' ≡ record seen { expected = expected.Node })
-Reads seen line (lines.Node info clock) seen' =
-    (seen.expected ≡ expected.Node) × (info ≡ the_first_node) × IsNodeLine line clock
-    × (seen' ≡ record seen { expected = expected.Database })
-Reads seen line (lines.Sql text) seen' =
-    (line ≡ codes "sql " ++ text)
-    × (((seen.expected ≡ expected.Database) × (text ≡ codes "CREATE DATABASE d") × (seen' ≡ record seen { expected = expected.Table }))
-    ⊎ ((seen.expected ≡ expected.Table) × (text ≡ codes "CREATE TABLE t (id INT PRIMARY KEY)") × (seen' ≡ record seen { expected = expected.Begin })))
-Reads seen line (lines.Event e) seen' = ReadsEvent seen line e seen'
+abbrev pub counted : Seen → Seen
+counted seen = record seen { counted = seen.counted + 1 }
+
+-- ---- the line as it is answered
+
+-- A transaction has the place of its name as its number. A statement after `begin` is an event.
+unfoldable pub line_of : Seen → Form → Line
+line_of seen (forms.Cluster settings) = lines.Cluster settings
+line_of seen (forms.Node info clock) = lines.Node info clock
+line_of seen (forms.Sql text) = if seen.begun then lines.Event (events.Sql text) else lines.Sql text
+line_of seen (forms.Txn name gateway kind list) = lines.Event (events.Txn (record { 0 = length seen.names }) gateway kind list)
+line_of seen (forms.Timeout name) = lines.Event (events.Timeout (record { 0 = unwrap_or (place_of seen.names name) 0 }))
+line_of seen (forms.Event e) = lines.Event e
+
+-- An empty line or a comment is skipped.
+abbrev pub is_skipped : List ℕ → Bool
+is_skipped [] = true
+is_skipped (b ∷ line) = b == 35
+
+abbrev pub unless_fault : Seen → Form → Option ℕ → Result (Line × Seen) ℕ
+unless_fault seen f (Some k) = Err k
+unless_fault seen f None = Ok (line_of seen f, counted (after_form seen f))
+
+abbrev pub read_form : Seen → Told → Result Form ℕ → Result (Line × Seen) ℕ
+read_form seen told (Err k) = Err k
+read_form seen told (Ok f) = unless_fault seen f (fault_of seen told f)
+
+-- How a line is read after those seen so far: the line and what is seen then, or the number of its fault.
+-- A line has at most 4,096 bytes without its end.
+unfoldable pub reads : Seen → Told → List ℕ → Result (Line × Seen) ℕ
+reads seen told line =
+    if nat_lt 4096 (length line) then Err 10
+    else if is_skipped line then Ok (lines.Skipped, seen)
+    else read_form seen told (said seen line)
 
 -- The line of this transaction was read.
 abbrev pub IsRead : Seen → TxnId → Type 0
 IsRead seen t = t.0 < length seen.names
-
--- The line has the fault S1.
-abbrev pub HasNoLine : Seen → List ℕ → Type 0
-HasNoLine seen line = (l : Line) (seen' : Seen) → ¬ Reads seen line l seen'
-
--- What the reader answers to a line.
-abbrev pub Answers : Seen → List ℕ → Result Line LineFault → Seen → Type 0
-Answers seen line (Ok l) seen' = Reads seen line l seen'
-Answers seen line (Err (faults.S k)) seen' = (k ≡ 1) × (seen' ≡ seen) × HasNoLine seen line
-Answers seen line (Err faults.Memory) seen' = seen' ≡ seen

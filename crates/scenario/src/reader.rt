@@ -1,151 +1,124 @@
 //! Reading the lines of a scenario.
 
-ghost use Rattle.std.specs.Prelude.{◌≡◌, ◌↔◌, [], ℕ, List, IfOk, IfErr, OnErr, IfSome, IfNone, IsTrue, Contains};
-ghost use Rattle.scenario.specs.Lines.{Answers, HasNoLine, Reads, IsSkipped, IsTxnName, IsTxnLine, IsClockText, IsNodeLine, IsRead, IsTaken, the_standard_settings};
+ghost use Rattle.std.specs.Prelude.{◌≡◌, ◌↔◌, ◌≤◌, ◌<◌, [], ℕ, List, Ok, Err, false, length, IfOk, IfErr, OnErr, IfSome, IfNone, IsTrue, Contains};
+ghost use Rattle.scenario.specs.Judgements.{is_out_of_range, repeats_a_name};
+ghost use Rattle.scenario.specs.Lines.{fault_of, IsRead, is_skipped, nothing_seen, reads, said, told_by};
 ghost use Rattle.scenario.specs.Text.{name_of};
-ghost use Rattle.scenario.specs.declared.reader.Expected.TheVariants as expected;
+ghost use Rattle.scenario.specs.Words.{Gives};
 
-use crate::events::Event;
-use crate::lines::{Line, LineFault};
-use crate::world::World;
-use mr_base::{
-    Bytes, CloneIn, Kind, ListOf, Memory, NodeId, NodeInfo, Settings, TxnId, after_head,
-    round_blank,
+use crate::forms::Form;
+use crate::grammar::{form_of, named};
+use crate::judgements::{
+    awaits_nothing, begins_wrongly, is_out_of_order, is_out_of_range, meets_wrong_state,
+    misses_message, names_nothing, repeats_a_name,
 };
-use region_sql::first_statement;
+use crate::lines::{Line, LineFault};
+use crate::seen::Seen;
+use crate::seen_nodes::SeenNodes;
+use crate::taking::take;
+use crate::txn_names::TxnNames;
+use crate::world::World;
+use mr_base::{Bytes, ListOf, TxnId};
 use std::alloc::Global;
 use std::marker::Model;
 
-/// Which line comes next.
-#[derive(Clone, Copy, Debug, PartialEq, Eq)]
-pub enum Expected {
-    Cluster,
-    Node,
-    Database,
-    Table,
-    Begin,
-    Transaction,
-}
+/// The most bytes of a line, without its end.
+const MOST_BYTES: usize = 4096;
+
+/// The most lines that aren't skipped.
+const MOST_LINES: u32 = 200_000;
 
 /// The lines of a scenario that were read so far, as far as the next one depends on them.
 #[derive(Drop)]
 pub struct Scenario {
     alloc: Global,
-    zones_only: bool,
-    expected: Expected,
-    names: ListOf<Bytes>,
+    seen: Seen,
 }
 
 impl Model for Scenario {
-    ghost use Rattle.scenario.specs.Seen.{Seen};
+    ghost use Rattle.std.specs.Prelude.{◌≤◌, length};
+    ghost use Rattle.scenario.specs.declared.seen.Seen.{Seen};
 
     ghost Value = { Seen };
 
-    ghost view = { λ s. record { zones_only = s.zones_only; expected = s.expected; names = s.names } };
-}
+    ghost view = { λ s. s.seen };
 
-/// The settings where a `cluster` line names none.
-pub fn standard_settings() -> Settings
-    ensures { result ≡ the_standard_settings }
-{
-    Settings {
-        max_offset: 500,
-        lease: 6000,
-        lag: 3000,
-        lead: 800,
-        expire: 5000,
-    }
-}
-
-/// The physical clock that a text writes: milliseconds from 1 to below 2^53, in decimal digits without
-/// leading zeros.
-fn clock_of(text: &[u8]) -> Option<u64>
-    ensures found { IfSome result (λ n. IsClockText text.now n) }
-    ensures only { IfNone result ((n : ℕ) → ¬ IsClockText text.now n) }
-{
-    let s = std::str::from_utf8(text).ok()?;
-    match text {
-        [b'+', ..] => None,
-        [b'0', ..] => None,
-        _ => s.parse::<u64>().ok().filter(|n| *n < 1 << 53),
-    }
-}
-
-/// Whether a text is a transaction's name.
-fn is_txn_name(name: &[u8]) -> bool
-    ensures { IsTrue result ↔ IsTxnName name.now }
-{
-    let letter = matches!(name, [b'a'..=b'z', ..]);
-    let plain = |b: &u8| matches!(*b, b'a'..=b'z' | b'0'..=b'9' | b'_');
-    letter && name.len() <= 32 && name.iter().all(plain)
+    ghost invariant = { λ s. length s.seen.names ≤ s.seen.counted };
 }
 
 /// Whether a line is empty or a comment.
 fn is_skipped(line: &[u8]) -> bool
-    ensures { IsTrue result ↔ IsSkipped line.now }
+    ensures { result ≡ is_skipped line.now }
 {
     matches!(line, [] | [b'#', ..])
 }
 
-/// The name and the list of the line of a transaction.
-fn txn_line(line: &[u8]) -> Option<(&[u8], &[u8])>
-    ensures found { IfSome result (λ parts. IsTxnLine line.now parts.0.now parts.1.now) }
-    ensures only { IfNone result ((name list : List ℕ) → ¬ IsTxnLine line.now name list) }
+/// What a line says that isn't skipped.
+#[tactic(auto, unfolding(crate::specs::Lines::said))]
+fn said(alloc: Global, seen: &Seen, line: &[u8]) -> Result<Form, LineFault>
+    ensures ok { IfOk result (λ f. said seen.now line.now ≡ Ok f) }
+    ensures err { IfErr result (λ e. (k : ℕ) → e ≡ LineFault.S k → said seen.now line.now ≡ Err k) }
+    ensures counts { IfOk result (λ f. seen.now.counted < 200000) }
 {
-    let Some(rest) = after_head(line, b"txn ") else {
-        return None;
-    };
-    let Some((name, rest)) = round_blank(rest) else {
-        return None;
-    };
-    let Some(list) = after_head(rest, b"n1 now ") else {
-        return None;
-    };
-    if is_txn_name(name) {
-        Some((name, list))
-    } else {
-        None
+    if seen.counted >= MOST_LINES {
+        return Err(LineFault::S(11));
     }
-}
-
-/// The clock of the line of the node.
-fn node_line(line: &[u8]) -> Option<u64>
-    ensures found { IfSome result (λ n. IsNodeLine line.now n) }
-    ensures only { IfNone result ((n : ℕ) → ¬ IsNodeLine line.now n) }
-{
-    let Some(digits) = after_head(line, b"node n1 us-east a ") else {
-        return None;
+    let Some(name) = named(line) else {
+        return Err(LineFault::S(1));
     };
-    clock_of(digits)
+    form_of(alloc, name, line)
 }
 
-/// Whether a list is one that the cluster of one table takes.
-fn is_taken(list: &[u8]) -> bool
-    ensures { IsTrue result ↔ IsTaken list.now }
+/// The fault of a line whose words fit its form.
+#[tactic(auto, unfolding(crate::specs::Lines::fault_of))]
+fn fault_of<W: World>(seen: &Seen, w: &W, form: &Form) -> Option<u8>
+    ensures fault { result ≡ fault_of seen.now (told_by (W.flight w.now) (W.live_ranges w.now) (W.replicas w.now) (W.awaited w.now)) form.now }
+    ensures in_range { IfNone result (is_out_of_range seen.now form.now ≡ false) }
+    ensures fresh { IfNone result (repeats_a_name seen.now form.now ≡ false) }
 {
-    first_statement(list).is_some()
-}
-
-/// Whether a name is among these.
-fn is_used(names: &[Bytes], name: &[u8]) -> bool
-    ensures { IsTrue result ↔ Contains names.now name.now }
-{
-    names.iter().any(|used| used.as_slice() == name)
+    if is_out_of_range(seen, form) {
+        return Some(3);
+    }
+    if begins_wrongly(seen, form) {
+        return Some(5);
+    }
+    if is_out_of_order(seen, form) {
+        return Some(6);
+    }
+    if names_nothing(seen, w, form) {
+        return Some(4);
+    }
+    if repeats_a_name(seen, form) {
+        return Some(7);
+    }
+    if misses_message(w, form) {
+        return Some(8);
+    }
+    if meets_wrong_state(seen, w, form) {
+        return Some(9);
+    }
+    if awaits_nothing(seen, w, form) {
+        return Some(12);
+    }
+    None
 }
 
 impl Scenario {
-    ghost use Rattle.scenario.specs.Seen.{Seen};
-
-    /// A scenario of which nothing was read yet. With `zones_only` it is read for its ranges alone.
+    /// A scenario of which nothing was read yet. With `zones_only` it is read for its ranges alone, and
+    /// has no lines from `begin` on.
     pub fn new(alloc: Global, zones_only: bool) -> Scenario
-        ensures { result ≡ record { zones_only = zones_only; expected = expected.Cluster; names = [] } }
+        ensures { result ≡ nothing_seen zones_only }
     {
-        Scenario {
-            alloc,
+        let seen = Seen {
             zones_only,
-            expected: Expected::Cluster,
-            names: ListOf::new(alloc),
-        }
+            counted: 0,
+            stated: false,
+            begun: false,
+            regions: ListOf::new(alloc),
+            nodes: SeenNodes::new(alloc),
+            names: TxnNames::new(alloc),
+        };
+        Scenario { alloc, seen }
     }
 
     /// The names of the transactions, in the order in which their lines were read: `TxnId(k)` has the
@@ -153,7 +126,7 @@ impl Scenario {
     pub fn names(&self) -> &[Bytes]
         ensures { result.now ≡ self.now.names }
     {
-        self.names.as_slice()
+        self.seen.names.as_slice()
     }
 
     /// The name of a transaction.
@@ -161,124 +134,42 @@ impl Scenario {
         requires { IsRead self.now t }
         ensures { result.now ≡ name_of self.now.names t }
     {
-        self.names.as_slice()[t.0 as usize].as_slice()
+        self.seen.names.as_slice()[t.0 as usize].as_slice()
     }
 
-    /// Reads the next line, which comes without its end. Source: this project's profile.
-    pub fn read_line<W: World>(&mut self, line: &[u8], _w: &W) -> Result<Line, LineFault>
-        ensures read { IfOk result (λ l. Reads self.old line.now l self.new) }
-        ensures fault { IfErr result (λ e. (k : ℕ) → e ≡ LineFault.S k → (k ≡ 1) × HasNoLine self.old line.now) }
+    /// The transaction of a name. None where no line of a transaction with this name was read.
+    pub fn txn(&self, name: &[u8]) -> Option<TxnId>
+        ensures found { IfSome result (λ t. IsRead self.now t × (name_of self.now.names t ≡ name.now)) }
+        ensures none { IfNone result (¬ Contains self.now.names name.now) }
+    {
+        match self.seen.names.place(name) {
+            None => None,
+            Some(place) => Some(TxnId(place)),
+        }
+    }
+
+    /// Reads the next line, which comes without its end. The fault is the first that applies, in the
+    /// order S10, S11, S1, S2, S3, S5, S6, S4, S7, S8, S9, S12; a refused line doesn't count as read.
+    /// Source: this project's profile.
+    #[tactic(auto, unfolding(crate::specs::Lines::reads))]
+    pub fn read_line<W: World>(&mut self, line: &[u8], w: &W) -> Result<Line, LineFault>
+        ensures read { IfOk result (λ l. reads self.old (told_by (W.flight w.now) (W.live_ranges w.now) (W.replicas w.now) (W.awaited w.now)) line.now ≡ Ok (l, self.new)) }
+        ensures fault { IfErr result (λ e. (k : ℕ) → e ≡ LineFault.S k
+            → reads self.old (told_by (W.flight w.now) (W.live_ranges w.now) (W.replicas w.now) (W.awaited w.now)) line.now ≡ Err k) }
         ensures unchanged { OnErr result (self.new ≡ self.old) }
     {
-        self.answer(line)
-    }
-
-    fn answer(&mut self, line: &[u8]) -> Result<Line, LineFault>
-        ensures { Answers self.old line.now result self.new }
-    {
+        if line.len() > MOST_BYTES {
+            return Err(LineFault::S(10));
+        }
         if is_skipped(line) {
             return Ok(Line::Skipped);
         }
-        match self.expected {
-            Expected::Cluster => self.cluster(line),
-            Expected::Node => self.node(line),
-            Expected::Database => self.database(line),
-            Expected::Table => self.table(line),
-            Expected::Begin => self.begin(line),
-            Expected::Transaction => self.transaction(line),
+        let form = said(self.alloc, &self.seen, line)?;
+        if let Some(k) = fault_of(&self.seen, w, &form) {
+            return Err(LineFault::S(k));
         }
-    }
-
-    fn cluster(&mut self, line: &[u8]) -> Result<Line, LineFault>
-        requires expected { self.old.expected ≡ Expected.Cluster }
-        requires counts { ¬ IsSkipped line.now }
-        ensures { Answers self.old line.now result self.new }
-    {
-        if line != b"cluster".as_slice() {
-            return Err(LineFault::S(1));
-        }
-        self.expected = Expected::Node;
-        Ok(Line::Cluster(standard_settings()))
-    }
-
-    fn node(&mut self, line: &[u8]) -> Result<Line, LineFault>
-        requires expected { self.old.expected ≡ Expected.Node }
-        requires counts { ¬ IsSkipped line.now }
-        ensures { Answers self.old line.now result self.new }
-    {
-        let Some(clock) = node_line(line) else {
-            return Err(LineFault::S(1));
-        };
-        let region = Bytes::from_slice(self.alloc, b"us-east")?;
-        let zone = Bytes::from_slice(self.alloc, b"a")?;
-        self.expected = Expected::Database;
-        let id = NodeId(1);
-        Ok(Line::Node(NodeInfo { id, region, zone }, clock))
-    }
-
-    fn database(&mut self, line: &[u8]) -> Result<Line, LineFault>
-        requires expected { self.old.expected ≡ Expected.Database }
-        requires counts { ¬ IsSkipped line.now }
-        ensures { Answers self.old line.now result self.new }
-    {
-        if line != b"sql CREATE DATABASE d".as_slice() {
-            return Err(LineFault::S(1));
-        }
-        let text = Bytes::from_slice(self.alloc, b"CREATE DATABASE d")?;
-        self.expected = Expected::Table;
-        Ok(Line::Sql(text))
-    }
-
-    fn table(&mut self, line: &[u8]) -> Result<Line, LineFault>
-        requires expected { self.old.expected ≡ Expected.Table }
-        requires counts { ¬ IsSkipped line.now }
-        ensures { Answers self.old line.now result self.new }
-    {
-        if line != b"sql CREATE TABLE t (id INT PRIMARY KEY)".as_slice() {
-            return Err(LineFault::S(1));
-        }
-        let text = Bytes::from_slice(self.alloc, b"CREATE TABLE t (id INT PRIMARY KEY)")?;
-        self.expected = Expected::Begin;
-        Ok(Line::Sql(text))
-    }
-
-    fn begin(&mut self, line: &[u8]) -> Result<Line, LineFault>
-        requires expected { self.old.expected ≡ Expected.Begin }
-        requires counts { ¬ IsSkipped line.now }
-        ensures { Answers self.old line.now result self.new }
-    {
-        if line != b"begin".as_slice() {
-            return Err(LineFault::S(1));
-        }
-        self.expected = Expected::Transaction;
-        Ok(Line::Event(Event::Begin))
-    }
-
-    fn transaction(&mut self, line: &[u8]) -> Result<Line, LineFault>
-        requires expected { self.old.expected ≡ Expected.Transaction }
-        requires counts { ¬ IsSkipped line.now }
-        ensures { Answers self.old line.now result self.new }
-    {
-        let Some((name, list)) = txn_line(line) else {
-            return Err(LineFault::S(1));
-        };
-        if is_used(self.names.as_slice(), name) {
-            return Err(LineFault::S(1));
-        }
-        if !is_taken(list) {
-            return Err(LineFault::S(1));
-        }
-        let name = Bytes::from_slice(self.alloc, name)?;
-        let list = Bytes::from_slice(self.alloc, list)?;
-        let Ok(txn) = u32::try_from(self.names.len()) else {
-            return Err(LineFault::Memory);
-        };
-        self.names.push(name)?;
-        Ok(Line::Event(Event::Txn {
-            txn: TxnId(txn),
-            gateway: NodeId(1),
-            kind: Kind::Now,
-            list,
-        }))
+        let line = take(self.alloc, &mut self.seen, form)?;
+        self.seen.counted += 1;
+        Ok(line)
     }
 }

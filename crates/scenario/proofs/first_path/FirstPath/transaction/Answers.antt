@@ -1,9 +1,9 @@
 use Rattle.std.proofs.Common.{ℕ, List, refl, ap, ◌∙◌, subst}
 use Rattle.std.specs.Prelude.{Contains}
-use Rattle.scenario.specs.Seen.{Seen}
+use Rattle.scenario.specs.FirstSeen.{Seen}
 use Rattle.scenario.proofs.NoLine.{no_transaction, used, not_taken}
 use Rattle.scenario.proofs.Names.{refuted}
-use Rattle.scenario.proofs.reader.Scenario.transaction.Goals as goal
+use Rattle.scenario.proofs.first_path.FirstPath.transaction.Goals as goal
 
 pub returns-then-is_used : goal.returns-then-is_used
 returns-then-is_used c =

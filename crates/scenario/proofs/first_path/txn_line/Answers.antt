@@ -1,5 +1,5 @@
 use Rattle.scenario.proofs.Names.{without_blank, with_another_tail, without_name, refuted}
-use Rattle.scenario.proofs.reader.txn_line.Goals as goal
+use Rattle.scenario.proofs.first_path.txn_line.Goals as goal
 
 pub returns-in_default-round_blank-clause-only : goal.returns-in_default-round_blank-clause-only
 returns-in_default-round_blank-clause-only c = without_blank _ _ c.in-Some.ensures.found c.in_default-round_blank.ensures.only

@@ -1,5 +1,5 @@
 use Rattle.std.specs.Prelude.{ℕ, Bool, List}
-use Rattle.scenario.specs.declared.reader.Expected.{Expected}
+use Rattle.scenario.specs.declared.first_path.Expected.{Expected}
 
 -- What is kept of the lines of a scenario that were read: whether ranges are all that it is read for,
 -- which line comes next, and the names of its transactions in the order in which they came.

@@ -1,0 +1,25 @@
+-- Words of a line.
+use Rattle.std.proofs.Common.{◌≡◌, ℕ, ◌^◌, ◌<◌, ◌≤◌, true, false, not, List, [], ◌∷◌, ◌++◌, length, get_or, take, drop, Bool, refl, sym, ap, ◌∙◌, arith}
+use Rattle.std.specs.Prelude.{◌==◌}
+use Rattle.std.specs.List.{prefix_len}
+use Rattle.std.proofs.Math.Nat.{pow-le-pow_right}
+use Rattle.std.proofs.lemmas.List.Sums.{prefix_len_is, prefix_len_passes}
+use Rattle.std.proofs.lemmas.Str.{is_utf8-from_IsUtf8, IsUtf8-from_is_utf8}
+use Rattle.std.specs.Str.{IsUtf8, is_utf8}
+use Rattle.scenario.specs.Words.{is_inside_word, word_len}
+
+pub run_is : (xs : List ℕ) (n : ℕ) → n ≤ length xs → ((k : ℕ) → k < n → is_inside_word (get_or xs k 0) ≡ true)
+    → (n < length xs → is_inside_word (get_or xs n 0) ≡ false) → n ≡ word_len xs
+run_is xs n le each stop = sym (prefix_len_is is_inside_word xs n 0 le each stop)
+
+pub power_below : (i : ℕ) → i ≤ 16 → 10 ^ i ≤ 10 ^ 16
+power_below i le = pow-le-pow_right {n = 10} (omega arith) le
+
+pub is_text : (bs : List ℕ) → IsUtf8 bs → true ≡ is_utf8 bs
+is_text bs h = sym (is_utf8-from_IsUtf8 bs h)
+
+pub is_no_text : (bs : List ℕ) → ¬ IsUtf8 bs → false ≡ is_utf8 bs
+is_no_text bs h = elim (is_utf8 bs) as (λ b. is_utf8 bs ≡ b → false ≡ b) [ true ↦ λ e. absurd (h (IsUtf8-from_is_utf8 bs e)) | false ↦ λ e. refl ] refl
+
+pub blank_stops : (b : ℕ) → b ≡ 32 → is_inside_word b ≡ false
+blank_stops b e = rw e refl
