@@ -64,12 +64,16 @@ pub record IsCluster (regions : List (List ℕ)) : Type 0 where
 abbrev pub IsSoundAmong : List Database → Table → Type 0
 IsSoundAmong databases t = (d : Database) × (database_named t.database databases ≡ Some d) × IsSoundIn d t
 
+-- Tables are told apart by their databases and names.
+abbrev pub full_name : Table → List ℕ × List ℕ
+full_name t = (t.database, t.name)
+
 -- A catalog holds no more databases and tables than may be, no two tables of one database have the same
 -- name, and the current database is there. (The numbers are this project's profile.)
 pub record IsWithinLimits (c : Contents) : Type 0 where
   pub databases : length c.databases ≤ 16
   pub tables : length c.tables ≤ 64
-  pub named_apart : AreDistinct (map (λ t. (t.database, t.name)) c.tables)
+  pub named_apart : AreDistinct (map full_name c.tables)
   pub current : IfSome c.current (λ place. place < length c.databases)
 
 -- What every catalog is.
