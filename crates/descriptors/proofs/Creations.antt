@@ -1,4 +1,4 @@
-use Rattle.std.proofs.Common.{◌≡◌, ◌≢◌, ℕ, zero, suc, ◌<◌, Bool, true, false, cond, not, ◌&&◌, List, [], ◌∷◌, ◌++◌, Option, None, Some, All, AllPairs, IsTrue, IsUtf8, length, find, get_or, refl, ap, sym, ◌∙◌, arith, subst, slice_get, option_and_then, nat_le, true≢false, unwrap_or}
+use Rattle.std.proofs.Common.{◌≡◌, ◌≢◌, ℕ, zero, suc, ◌<◌, Bool, true, false, cond, not, ◌&&◌, List, [], ◌∷◌, ◌++◌, Option, None, Some, All, AllPairs, IsTrue, IsUtf8, length, find, get_or, refl, ap, sym, ◌∙◌, arith, subst, slice_get, option_and_then, is_some, nat_le, true≢false, unwrap_or}
 use Rattle.std.specs.List.{list_any, list_all}
 use Rattle.std.specs.Option.{option_map_or, option_or}
 use Rattle.std.specs.Str.{bytes_eq}
@@ -16,7 +16,7 @@ use Rattle.region_sql.specs.declared.region_statements.Locality.TheVariants.{InP
 use Rattle.region_sql.specs.declared.region_statements.RegionStatement.TheVariants.{CreateDatabase, CreateTable, SetLocality}
 use Rattle.descriptors.specs.declared.database.Database.{Database}
 use Rattle.descriptors.specs.declared.table.Table.{Table}
-use Rattle.descriptors.specs.Contents.{Contents, is_database, is_table, database_named, current_database}
+use Rattle.descriptors.specs.Contents.{Contents, is_database, is_table, database_named, table_named, current_database}
 use Rattle.descriptors.specs.Changes.{after, database_made, locality_made, table_made, with_locality, with_table}
 use Rattle.descriptors.specs.Columns.{columns_of, make_no_table}
 use Rattle.descriptors.specs.Lists.{changed, has_name, has_twice, without}
@@ -24,6 +24,7 @@ use Rattle.descriptors.specs.Refusals.{rows_of, of_current, has_regions, misses_
 use Rattle.descriptors.specs.Sound.{AreDistinct, FitsRegions, IsPrimaryOf, IsSoundAmong, IsSoundCatalog, IsSoundDatabase}
 use Rattle.descriptors.proofs.Additions.{bytes_differ, bytes_same}
 use Rattle.descriptors.proofs.Found.{NoneApplies, and_false, and_true, or_false, there, nowhere, found, none_found, same_bytes, differ_bytes, named, not_named, no_more}
+use Rattle.descriptors.proofs.Limits.{limits_relocated, limits_with_one_more, limits_with_table}
 use Rattle.descriptors.proofs.Regions.{all_changed, some_regions, enough_regions, survived, named_any, located}
 use Rattle.descriptors.proofs.SoundTables.{sound_table}
 
@@ -78,6 +79,7 @@ sound_create_database c n primary regions goal sound utf8 passed =
       in_cluster = All-push (λ d. All (λ r. IsTrue (has_name c.regions r)) d.regions) c.databases d sound.in_cluster m.inside;
       names = all_pairs_push (λ d e. d.name ≢ e.name) c.databases d sound.names (λ k e lt same. differ_bytes n (get_or c.databases k e).name (none k e lt) (sym same));
       tables = All-weaker (IsSoundAmong c.databases) (IsSoundAmong (c.databases ++ d ∷ [])) (among_more c.databases d) c.tables sound.tables;
+      limits = limits_with_one_more c d sound.limits passed.1.1.1.1.1.1.1.1.1.1.1.0;
     }
 
 -- No table is of a database that isn't there.
@@ -128,6 +130,7 @@ sound_set_locality c n l sound passed =
       names = sound.names;
       tables = all_changed (IsSoundAmong c.databases) (is_table d.name n) (with_locality l) c.tables sound.tables
           (λ t e. moved d own good t (found (is_table d.name n) c.tables t e).1 (All-contains (IsSoundAmong c.databases) c.tables t sound.tables (found (is_table d.name n) c.tables t e).0));
+      limits = limits_relocated c (is_table d.name n) l sound.limits;
     })
   where
     moved : (d : Database) → database_named d.name c.databases ≡ Some d → FitsRegions d.regions (Some l) → (t : Table) → is_table d.name n t ≡ true → IsSoundAmong c.databases t → IsSoundAmong c.databases (with_locality l t)
@@ -165,4 +168,6 @@ sound_create_table c n items l sound utf8 columns passed =
           locality = fits_made d l ds (current_test c d (λ d. option_map_or (λ l. misses_locality l d) l false) cur.1 passed.1.1.1.1.1.1.0);
         },
       );
+      limits = limits_with_table c (table_made d n items l) sound.limits (or_false (nat_le 64 (length c.tables)) (make_no_table items) passed.1.1.1.1.1.1.1.1.1.1.1.0).0
+          (nowhere (table_named d.name n c.tables) (ap (λ o. is_some (option_and_then (λ d. table_named d.name n c.tables) o)) (sym cur.1) ∙ passed.1.1.0));
     })

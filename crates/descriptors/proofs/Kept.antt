@@ -8,6 +8,7 @@ use Rattle.descriptors.specs.Refusals.{refusal_of, rows_of, of_database, has_reg
 use Rattle.descriptors.specs.Sound.{IsSoundCatalog}
 use Rattle.descriptors.proofs.Creations.{sound_create_database, sound_create_table, sound_set_locality}
 use Rattle.descriptors.proofs.Found.{none_applies, NoneApplies}
+use Rattle.descriptors.proofs.Limits.{limits_used}
 use Rattle.descriptors.proofs.Regions.{sound_add_region, sound_survive, sound_placement, sound_drop_region, sound_set_primary, sound_set_first}
 
 sound_primary : (c : Contents) (n r : List ℕ) → IsSoundCatalog c → NoneApplies (rows_of c (SetPrimary n r)) → IsSoundCatalog (after c (SetPrimary n r))
@@ -19,7 +20,7 @@ sound_primary c n r sound passed = by (of_database c n has_regions) refl
 
 pub sound_after : (c : Contents) (s : RegionStatement) → IsSoundCatalog c → NewNamesAreUtf8 s → refusal_of c s ≡ None → IsSoundCatalog (after c s)
 sound_after c (CreateDatabase name primary regions goal) sound utf8 h = sound_create_database c name primary regions goal sound utf8 (none_applies (rows_of c (CreateDatabase name primary regions goal)) h)
-sound_after c (Use name) sound utf8 h = record { cluster = sound.cluster; databases = sound.databases; in_cluster = sound.in_cluster; names = sound.names; tables = sound.tables }
+sound_after c (Use name) sound utf8 h = record { cluster = sound.cluster; databases = sound.databases; in_cluster = sound.in_cluster; names = sound.names; tables = sound.tables; limits = limits_used c name sound.limits }
 sound_after c (SetPrimary name region) sound utf8 h = sound_primary c name region sound (none_applies (rows_of c (SetPrimary name region)) h)
 sound_after c (AddRegion name region) sound utf8 h = sound_add_region c name region sound (none_applies (rows_of c (AddRegion name region)) h)
 sound_after c (DropRegion name region) sound utf8 h = sound_drop_region c name region sound (none_applies (rows_of c (DropRegion name region)) h)

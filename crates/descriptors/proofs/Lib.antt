@@ -4,6 +4,7 @@ mod Edits
 mod Found
 mod Index
 mod Kept
+mod Limits
 mod Lookups
 mod Regions
 mod SoundTables

@@ -24,6 +24,7 @@ use Rattle.descriptors.specs.Refusals.{rows_of, of_database, has_regions, surviv
 use Rattle.descriptors.specs.Sound.{AreDistinct, FitsRegions, IsPrimaryOf, IsSoundAmong, IsSoundCatalog, IsSoundDatabase, IsSoundTable}
 use Rattle.descriptors.proofs.Additions.{bytes_differ, bytes_same}
 use Rattle.descriptors.proofs.Found.{NoneApplies, and_false, or_false, have, found, find-changed, find-changed_other, same_bytes, differ_bytes, named, has_named, not_named, has_without, no_more, nowhere, length-without-le}
+use Rattle.descriptors.proofs.Limits.{limits_changed, limits_homed, limits_without_tables}
 
 -- A test of the database that is there.
 pub test_of : (c : Contents) (n : List ℕ) (d : Database) (test : Database → Bool) → database_named n c.databases ≡ Some d → of_database c n test ≡ false → test d ≡ false
@@ -94,6 +95,7 @@ with_database_sound c name f sound keeps good inside homes = record {
       (λ d e. inside d e (All-contains (λ d. All (λ r. IsTrue (has_name c.regions r)) d.regions) c.databases d sound.in_cluster (found (is_database name) c.databases d e).0));
   names = same_names c.databases (changed (is_database name) f c.databases) (names_changed (is_database name) f keeps c.databases) sound.names;
   tables = λ k t lt. still_among c.databases name f keeps (get_or c.tables k t) (get_or c.tables k t) refl (λ h. h) (λ same d e h. homes k t lt same d e h) (λ _. refl) (sound.tables k t lt);
+  limits = limits_changed c name f sound.limits;
 }
 
 pub has_some : (d : Database) → not (has_regions d) ≡ false → is_some d.primary ≡ true
@@ -262,7 +264,7 @@ sound_drop_region c n r sound passed =
     kept : (d : Database) → database_named n c.databases ≡ Some d → (p : List ℕ) → primary_region d ≡ Some p → has_name d.regions p ≡ true → has_name (without r d.regions) p ≡ true
     kept d e p at has = has_without r p d.regions (differ_bytes r p (sym (ap (λ o. option_map_or (bytes_eq r) o false) at) ∙ test_of c n d (λ d. option_map_or (bytes_eq r) (primary_region d) false) e passed.1.1.1.1.1.1.1.1.1.0)) has
 
--- SET passed.1.1.1.1.1.1.1.0 REGION of a database with regions.
+-- SET PRIMARY REGION of a database with regions.
 pub sound_set_primary : (c : Contents) (n r : List ℕ) → IsSoundCatalog c → NoneApplies (rows_of c (SetPrimary n r)) → of_database c n has_regions ≡ true → IsSoundCatalog (with_database c n (with_primary r))
 sound_set_primary c n r sound passed some =
     with_database_sound c n (with_primary r) sound (λ d. refl)
@@ -288,11 +290,11 @@ homed_cases name t = by (bytes_eq name t.database) refl
 pub located : (t : Table) (l : Locality) → IsSoundTable t → IsSoundTable (with_locality l t)
 located t l s = record { name = s.name; columns = s.columns; some = s.some; few = s.few; named = s.named; not_hidden = s.not_hidden; key = s.key; key_distinct = s.key_distinct; key_places = s.key_places; unique_rises = s.unique_rises; unique_places = s.unique_places }
 
--- SET passed.1.1.1.1.1.1.1.0 REGION of a database without regions.
+-- SET PRIMARY REGION of a database without regions.
 pub sound_set_first : (c : Contents) (n r : List ℕ) → IsSoundCatalog c → NoneApplies (rows_of c (SetPrimary n r)) → of_database c n has_regions ≡ false → IsSoundCatalog (record c { databases = changed (is_database n) (with_first_region r) c.databases; tables = map (homed_in_primary n) c.tables })
 sound_set_first c n r sound passed none =
     let one : IsSoundCatalog (with_database (record c { tables = [] }) n (with_first_region r)) =
-    with_database_sound (record c { tables = [] }) n (with_first_region r) (record { cluster = sound.cluster; databases = sound.databases; in_cluster = sound.in_cluster; names = sound.names; tables = All-nil (IsSoundAmong c.databases) }) (λ d. refl)
+    with_database_sound (record c { tables = [] }) n (with_first_region r) (record { cluster = sound.cluster; databases = sound.databases; in_cluster = sound.in_cluster; names = sound.names; tables = All-nil (IsSoundAmong c.databases); limits = limits_without_tables c sound.limits }) (λ d. refl)
     (λ d e ds. let empty = without_primary d e ds in record {
       name = ds.name;
       regions = All-cons IsUtf8 r [] (All-contains IsUtf8 c.regions r sound.cluster.names (named c.regions r (inside d e))) (All-nil IsUtf8);
@@ -310,6 +312,7 @@ sound_set_first c n r sound passed none =
       in_cluster = one.in_cluster;
       names = one.names;
       tables = All-map (IsSoundAmong (changed (is_database n) (with_first_region r) c.databases)) (homed_in_primary n) c.tables (All-weaker (IsSoundAmong c.databases) (λ t. IsSoundAmong (changed (is_database n) (with_first_region r) c.databases) (homed_in_primary n t)) (λ t a. table t a (homed_cases n t)) c.tables sound.tables);
+      limits = limits_homed c n r sound.limits;
     }
   where
     inside : (d : Database) → database_named n c.databases ≡ Some d → has_name c.regions r ≡ true

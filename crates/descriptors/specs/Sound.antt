@@ -1,4 +1,4 @@
-use Rattle.std.specs.Prelude.{◌≡◌, ◌≢◌, ℕ, ◌<◌, ◌≤◌, List, [], length, map, All, AllPairs, Any, IsUtf8, Option, Some, None, true, IsTrue, codes}
+use Rattle.std.specs.Prelude.{◌≡◌, ◌≢◌, ℕ, ◌<◌, ◌≤◌, List, [], length, map, All, AllPairs, Any, IfSome, IsUtf8, Option, Some, None, true, IsTrue, codes}
 use Rattle.region_sql.specs.declared.region_statements.Goal.TheVariants as goals
 use Rattle.region_sql.specs.declared.region_statements.Locality.{Locality}
 use Rattle.region_sql.specs.declared.region_statements.Locality.TheVariants as localities
@@ -64,6 +64,18 @@ pub record IsCluster (regions : List (List ℕ)) : Type 0 where
 abbrev pub IsSoundAmong : List Database → Table → Type 0
 IsSoundAmong databases t = (d : Database) × (database_named t.database databases ≡ Some d) × IsSoundIn d t
 
+-- Tables are told apart by their databases and names.
+abbrev pub full_name : Table → List ℕ × List ℕ
+full_name t = (t.database, t.name)
+
+-- A catalog holds no more databases and tables than may be, no two tables of one database have the same
+-- name, and the current database is there. (The numbers are this project's profile.)
+pub record IsWithinLimits (c : Contents) : Type 0 where
+  pub databases : length c.databases ≤ 16
+  pub tables : length c.tables ≤ 64
+  pub named_apart : AreDistinct (map full_name c.tables)
+  pub current : IfSome c.current (λ place. place < length c.databases)
+
 -- What every catalog is.
 pub record IsSoundCatalog (c : Contents) : Type 0 where
   pub cluster : IsCluster c.regions
@@ -71,3 +83,4 @@ pub record IsSoundCatalog (c : Contents) : Type 0 where
   pub in_cluster : All (λ d. All (λ r. IsTrue (has_name c.regions r)) d.regions) c.databases
   pub names : AllPairs (λ d e. d.name ≢ e.name) c.databases
   pub tables : All (IsSoundAmong c.databases) c.tables
+  pub limits : IsWithinLimits c

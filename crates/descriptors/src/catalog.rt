@@ -63,6 +63,13 @@ impl Catalog {
         }
     }
 
+    /// Why `apply` would refuse a statement, if it would. Nothing is copied or changed.
+    pub fn refusal(&self, s: &RegionStatement) -> Result<Option<CatalogRefusal>, Memory>
+        ensures { IfOk result (λ refusal. refusal ≡ refusal_of self.now s.now) }
+    {
+        self.store.refusal(s)
+    }
+
     /// The table of a name in the current database.
     pub fn table(&self, name: &[u8]) -> Option<&Table>
         ensures found { option_copied result ≡ current_table self.now name.now }
