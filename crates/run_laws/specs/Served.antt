@@ -18,7 +18,7 @@ use Rattle.scenario.specs.declared.entries.JournalEntry.TheVariants as entry
 use Rattle.sql_eval.specs.NextSpan.{AsksNext}
 use Rattle.run_laws.specs.LinesRun.{LinesRun}
 use Rattle.run_laws.specs.Steps.{IsStepOf}
-use Rattle.run_laws.specs.Words.{Beginning, log_of, spans_served, the_node, the_first_boot}
+use Rattle.run_laws.specs.Words.{Beginning, log_of, spans_served, the_node, the_range, the_first_boot}
 
 -- A node may serve a read of a range by its lease or by what it has closed.
 abbrev pub MayServe : How → List Entry → NodeId → Ts → Option ℕ → Type 0
@@ -35,6 +35,7 @@ pub record IsServed (s : LinesRun) (before : List JournalEntry) (a : AttemptId) 
   pub step : IsStepOf s before beginning statement
   pub attempt : beginning.attempt ≡ a
   pub node_is : node ≡ the_node
+  pub range_is : range ≡ the_range
   pub may_serve : MayServe by (first_entries count (log_of range before)) node at limit
   pub applied : count ≡ length (log_of range before)
   pub at_is : at ≡ beginning.start

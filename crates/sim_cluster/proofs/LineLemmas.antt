@@ -135,6 +135,7 @@ module _ (later : List NumberedEvent) (s : LinesRun) (k : Reading) (count line :
           step = step_of (begin_step b ∷ entry.Event line ∷ journal) refl refl facts.fresh;
           attempt = refl;
           node_is = refl;
+          range_is = refl;
           may_serve = subst (λ (y : List Entry). MayServe how.Lease y the_node b.start (Some b.limit)) (sym entries_are) (lease_is servable);
           applied = facts.kept.length_is ∙ ap length (sym facts.kept.log_is);
           at_is = refl;

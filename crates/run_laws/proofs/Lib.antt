@@ -1,0 +1,15 @@
+pub mod CommitLemmas
+pub mod Core
+pub mod CoreDecide
+pub mod CoreLog
+pub mod LogFacts
+pub mod OrderLemmas
+pub mod ServeLemmas
+pub mod StatementLemmas
+pub mod Sum
+pub mod SumDecide
+pub mod SumLog
+pub mod SumOf
+pub mod SumSteps
+pub mod ValidLemmas
+pub mod VisibleLemmas
