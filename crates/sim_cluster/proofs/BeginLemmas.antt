@@ -85,6 +85,7 @@ begin_known kept count line x old new journal empty known lease len keys floor =
       starts = ap greatest_start (sym empty) ∙ known.starts;
       within = (tt, (tt, tt));
       floor = subst (λ t. IsBehind kept count t) (sym floor) known.floor;
+      floor_is = floor ∙ known.floor_is;
       small = omega (arith, len);
       state = inr (record {
         expiration = x;

@@ -171,6 +171,7 @@ line_known k n count line b st course old new journal ahead small a start some i
           ∙ ap₂ (λ (x : Reading) (ts : Ts). later_reading x (record { wall = ts.wall; logical = ts.logical })) known.starts start ∙ later_next k n ahead;
       within = within_line n count line b course old journal a behind (within_next k count n ahead journal known.within);
       floor = behind;
+      floor_is = start;
       small = small_next count course old new known.small taken;
       state = inr (floor_apart n (count + 1) new b.start _ (kept_next k n count line b st course old new journal ahead a behind ints goes taken (made_range k count old journal some known.state)));
     }

@@ -1,4 +1,5 @@
 use Rattle.std.specs.Prelude.{◌≡◌, ◌≢◌, ◌↔◌, ◌⊎◌, ℕ, ℤ, ◌+◌, ◌*◌, ◌≤◌, ⊤, List, [], ◌∷◌, Option, Some, None, length}
+use Rattle.mr_base.specs.Timestamps.{of_reading}
 use Rattle.mr_base.specs.declared.ids.AttemptId.{AttemptId}
 use Rattle.mr_base.specs.declared.messages.Fate.TheVariants as fates
 use Rattle.mr_base.specs.declared.timestamps.Reading.{Reading}
@@ -74,11 +75,12 @@ pub record IsUnmade (range : Range) (journal : List JournalEntry) : Type 0 where
   pub lease : range.lease ≡ None
   pub ids : range.ids.keys ≡ []
 
--- The journal is known by what is kept of it.
+-- The journal is known by what is kept of it. The floor is the start of the last attempt, at which it read.
 pub record IsKnown (kept : Reading) (count : ℕ) (range : Range) (journal : List JournalEntry) : Type 0 where
   pub attempts : attempts_of journal ≡ count
   pub starts : greatest_start journal ≡ kept
   pub within : AreWithin kept count journal
   pub floor : IsBehind kept count range.floor
+  pub floor_is : range.floor ≡ of_reading kept count
   pub small : range.length ≤ 1 + 3 * count
   pub state : IsUnmade range journal ⊎ IsKept kept count range journal

@@ -11,3 +11,6 @@ mod transaction;
 
 pub use cluster::Cluster;
 pub use laying::{has_passed, laid_at};
+
+#[cfg(test)]
+mod tests;

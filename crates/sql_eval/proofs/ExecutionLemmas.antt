@@ -45,7 +45,7 @@ tested_id : (ms : List ℤ) (n : ℤ) → has_id n (map row_with ms) ≡ true �
 tested_id [] n e = absurd (cc)
 tested_id (m ∷ ms) n e =
     elim (or_cases (int_eq m n) (has_id n (map row_with ms)) e) as (λ _. HasId n (m ∷ ms)) [
-      inl p ↦ inl ((Decides-int_eq m n).0 p)
+      | inl p ↦ inl ((Decides-int_eq m n).0 p)
       | inr q ↦ inr (tested_id ms n q)
     ]
 
@@ -56,7 +56,7 @@ bool_cases false = inr refl
 pub tests_no_id : (ms : List ℤ) (n : ℤ) → ¬ HasId n ms → has_id n (map row_with ms) ≡ false
 tests_no_id ms n h =
     elim (bool_cases (has_id n (map row_with ms))) as (λ _. has_id n (map row_with ms) ≡ false) [
-      inl p ↦ absurd (h (tested_id ms n p))
+      | inl p ↦ absurd (h (tested_id ms n p))
       | inr q ↦ q
     ]
 

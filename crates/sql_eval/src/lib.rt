@@ -1,2 +1,10 @@
-//! What a statement does on a plain database, and which spans it reads.
+//! What a statement does on a plain table, and which spans it reads.
 #![tactic(auto)]
+
+mod execution;
+mod tables;
+
+pub use execution::{Execution, execute};
+
+#[cfg(test)]
+mod tests;
