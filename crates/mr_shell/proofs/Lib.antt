@@ -1,5 +1,6 @@
 pub mod ContentLemmas
 pub mod EndLemmas
+pub mod Exact
 pub mod NextLine
 pub mod OneCut
 pub mod OneReading
