@@ -2,8 +2,8 @@
 use Rattle.std.proofs.Common.{◌≡◌, ◌≢◌, ℕ, ◌+◌, ◌<◌, ◌≤◌, List, [], ◌∷◌, ◌++◌, refl, ap, sym, ◌∙◌, subst, length, length-append, add-one, arith}
 use Rattle.mr_base.specs.declared.ids.TxnId.{TxnId}
 use Rattle.run_laws.specs.LinesRun.{AreBefore, AreNotOf, IsNextLine, IsNotOf, LinesRun, NumberedEvent}
-use Rattle.scenario.specs.Lines.{Reads}
-use Rattle.scenario.specs.Seen.{Seen}
+use Rattle.scenario.specs.FirstPath.{Reads}
+use Rattle.scenario.specs.FirstSeen.{Seen}
 use Rattle.scenario.specs.declared.events.Event.{Event}
 use Rattle.scenario.specs.declared.events.Event.TheVariants as events
 use Rattle.scenario.specs.declared.lines.Line.{Line}

@@ -1,13 +1,13 @@
 -- A line is read in one way.
 use Rattle.std.proofs.Common.{◌≡◌, ◌≢◌, ℕ, List, [], ◌∷◌, ◌++◌, refl, ap, sym, ◌∙◌, inl, inr, arith}
 use Rattle.std.specs.Prelude.{◌⊎◌, codes, slice_index}
-use Rattle.scenario.specs.Lines.{IsNodeLine, IsSkipped, IsTxnLine, Reads}
-use Rattle.scenario.specs.Seen.{Seen}
+use Rattle.scenario.specs.FirstPath.{IsNodeLine, IsSkipped, IsTxnLine, Reads}
+use Rattle.scenario.specs.FirstSeen.{Seen}
 use Rattle.scenario.specs.declared.events.Event.TheVariants as events
 use Rattle.scenario.specs.declared.lines.Line.{Line}
 use Rattle.scenario.specs.declared.lines.Line.TheVariants as lines
-use Rattle.scenario.specs.declared.reader.Expected.{Expected}
-use Rattle.scenario.specs.declared.reader.Expected.TheVariants as expected
+use Rattle.scenario.specs.declared.first_path.Expected.{Expected}
+use Rattle.scenario.specs.declared.first_path.Expected.TheVariants as expected
 use Rattle.scenario.proofs.Names.{one_txn_line}
 
 -- a text that begins with another byte than `#` isn't skipped

@@ -8,9 +8,9 @@ use Rattle.std.specs.Io.KnownBytes.{append_known, prepend_known, IsAtEnd}
 use Rattle.mr_base.specs.declared.ids.TxnId.{TxnId}
 use Rattle.mr_io.proofs.Told.{append_known-append, append_known-nil}
 use Rattle.scenario.specs.EntryText.{entry_text}
-use Rattle.scenario.specs.Lines.{Reads}
+use Rattle.scenario.specs.FirstPath.{Reads}
 use Rattle.scenario.specs.Names.{NamesOnly}
-use Rattle.scenario.specs.Seen.{Seen}
+use Rattle.scenario.specs.FirstSeen.{Seen}
 use Rattle.scenario.specs.declared.entries.JournalEntry.{JournalEntry}
 use Rattle.scenario.specs.declared.events.Event.{Event}
 use Rattle.scenario.specs.declared.events.Event.TheVariants as events

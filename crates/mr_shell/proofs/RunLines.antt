@@ -4,9 +4,9 @@ use Rattle.std.specs.Prelude.{◌⊎◌, reverse}
 use Rattle.std.specs.Io.KnownBytes.{append_known}
 use Rattle.mr_base.specs.declared.byte_string.Bytes.{Bytes}
 use Rattle.mr_base.specs.declared.settings.Settings.{Settings}
-use Rattle.scenario.specs.Lines.{Reads}
+use Rattle.scenario.specs.FirstPath.{Reads}
 use Rattle.scenario.specs.Names.{NamesOnly}
-use Rattle.scenario.specs.Seen.{Seen}
+use Rattle.scenario.specs.FirstSeen.{Seen}
 use Rattle.scenario.specs.declared.entries.JournalEntry.{JournalEntry}
 use Rattle.scenario.specs.declared.events.Event.{Event}
 use Rattle.scenario.specs.declared.lines.Line.{Line}

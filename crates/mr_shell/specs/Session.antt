@@ -1,12 +1,12 @@
 use Rattle.std.specs.Prelude.{◌≡◌, ◌≢◌, ◌⊎◌, ℕ, ◌+◌, ◌<◌, ◌^◌, [], ◌∷◌, ⊤, List, Option, length}
 use Rattle.mr_base.specs.declared.settings.Settings.{Settings}
-use Rattle.scenario.specs.Lines.{Reads}
+use Rattle.scenario.specs.FirstPath.{Reads}
 use Rattle.scenario.specs.Names.{NamesOnly}
-use Rattle.scenario.specs.Seen.{Seen}
+use Rattle.scenario.specs.FirstSeen.{Seen}
 use Rattle.scenario.specs.declared.entries.JournalEntry.{JournalEntry}
 use Rattle.scenario.specs.declared.lines.Line.{Line}
 use Rattle.scenario.specs.declared.lines.Line.TheVariants as lines
-use Rattle.scenario.specs.declared.reader.Expected.TheVariants as expected
+use Rattle.scenario.specs.declared.first_path.Expected.TheVariants as expected
 use Rattle.sim_cluster.specs.Bounds.{AreSettings}
 use Rattle.sim_cluster.specs.Cluster.{IsRunOf, IsStep}
 use Rattle.sim_cluster.specs.View.{View}

@@ -1,10 +1,10 @@
 use Rattle.std.specs.Prelude.{◌≡◌, ℕ, ◌+◌, List, [], ◌∷◌, false, length}
 use Rattle.run_laws.specs.LinesRun.{LinesRun, no_lines, with_line}
-use Rattle.scenario.specs.Lines.{Reads, HasNoLine, the_standard_settings}
-use Rattle.scenario.specs.Seen.{Seen}
+use Rattle.scenario.specs.FirstPath.{Reads, HasNoLine, the_standard_settings}
+use Rattle.scenario.specs.FirstSeen.{Seen}
 use Rattle.scenario.specs.declared.lines.Line.{Line}
 use Rattle.scenario.specs.declared.lines.Line.TheVariants as lines
-use Rattle.scenario.specs.declared.reader.Expected.TheVariants as expected
+use Rattle.scenario.specs.declared.first_path.Expected.TheVariants as expected
 
 -- What the lines of a scenario tell: what is kept of them to read the next one, and what the cluster runs.
 pub record Story : Type 0 where

@@ -2,7 +2,7 @@
 
 ghost use Rattle.std.specs.Prelude.{◌≡◌, ◌≢◌, ◌≤◌, ◌<◌, ◌^◌, ℕ, List, Option, [], ◌∷◌, IfErr, IsOk, OnOk, codes};
 ghost use Rattle.scenario.specs.declared.lines.Line.TheVariants as lines;
-ghost use Rattle.scenario.specs.declared.reader.Expected.TheVariants as expecteds;
+ghost use Rattle.scenario.specs.declared.first_path.Expected.TheVariants as expecteds;
 ghost use Rattle.sim_cluster.specs.Bounds.{AreSettings};
 ghost use Rattle.sim_cluster.specs.Cluster.{IsStep};
 ghost use Rattle.mr_base.specs.declared.nodes.NodeInfo.{NodeInfo};
@@ -14,7 +14,7 @@ use crate::outcome::End;
 use crate::report::{entries_after, write_entries};
 use mr_base::Settings;
 use mr_io::Sink;
-use scenario::{Event, Journal, Line, LineFault, NoWorld, Scenario, standard_settings};
+use scenario::{Event, FirstPath, Journal, Line, LineFault, NoWorld, standard_settings};
 use sim_cluster::Cluster;
 use std::alloc::Global;
 
@@ -22,7 +22,7 @@ use std::alloc::Global;
 #[derive(Drop)]
 pub struct Session {
     alloc: Global,
-    scenario: Scenario,
+    scenario: FirstPath,
     settings: Settings,
     cluster: Cluster,
     lines: u32,
@@ -39,7 +39,7 @@ impl Session {
         let settings = standard_settings();
         Session {
             alloc,
-            scenario: Scenario::new(alloc, false),
+            scenario: FirstPath::new(alloc, false),
             settings,
             cluster: Cluster::new(alloc, settings, 0),
             lines: 0,

@@ -4,10 +4,11 @@ use Rattle.mr_base.specs.Timestamps.{IsBelow}
 use Rattle.mr_base.specs.declared.ids.AttemptId.{AttemptId}
 use Rattle.mr_base.specs.declared.ids.RangeId.{RangeId}
 use Rattle.mr_base.specs.declared.timestamps.Ts.{Ts}
-use Rattle.range_log.specs.Facts.{HasIntent, HasVersion, Version, lease_of, closed_of} 
+use Rattle.range_log.specs.Facts.{HasIntent, HasRecord, HasVersion, Version, lease_of, closed_of}
 use Rattle.range_log.specs.Facts as facts
 use Rattle.range_log.specs.declared.entries.Entry.TheVariants as log
 use Rattle.range_log.specs.declared.entries.Lease.{Lease}
+use Rattle.range_log.specs.declared.entries.TxnState.{TxnState}
 use Rattle.region_sql.specs.declared.first_forms.FirstStatement.{FirstStatement}
 use Rattle.scenario.specs.declared.entries.JournalEntry.{JournalEntry}
 use Rattle.scenario.specs.declared.entries.JournalEntry.TheVariants as entry
@@ -31,8 +32,8 @@ IsLaidAt before range a key asked p =
     ⊎ ((f : Ts) × StandsInTheWay before range a key f × IsBelow asked f
     × (p ≡ record { wall = f.wall; logical = f.logical + 1; owner = a.0 }))
 
--- A put: nothing that stands in its way is above it, no other's intent stands at its key, and it is its
--- attempt's first there.
+-- A put: nothing that stands in its way is above it, no other's intent stands at its key, it is its attempt's
+-- first there, and its attempt has no record yet.
 pub record IsPutLaid (s : LinesRun) (before : List JournalEntry) (range : RangeId) (a : AttemptId) (start : Ts) (anchor : RangeId) (p : Ts) (key : List ℕ) : Type 0 where
   pub beginning : Beginning
   pub statement : FirstStatement
@@ -43,6 +44,7 @@ pub record IsPutLaid (s : LinesRun) (before : List JournalEntry) (range : RangeI
   pub clear : (ts : Ts) → StandsInTheWay before range a key ts → ¬ IsBelow p ts
   pub alone : (i : facts.Laid) → HasIntent key i (log_of range before) → i.attempt ≡ a
   pub first : (value : Option (List ℕ)) (ts : Ts) → ¬ HasPut a key value ts (log_of range before)
+  pub undecided : (state : TxnState) → ¬ HasRecord a state (log_of range before)
   pub at : IsLaidAt before range a key (greatest_put a beginning.start (log_of range before)) p
 
 -- Laid: each put is so. (The timestamp cache and closed timestamps: Taft et al., SIGMOD 2020; the amount by

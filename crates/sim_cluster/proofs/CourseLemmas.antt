@@ -187,6 +187,7 @@ module _ (later : List NumberedEvent) (s : LinesRun) (k : Reading) (count line :
           clear = in_the_way (int_key m);
           alone = λ i h. absurd (known_log.intents (int_key m) i h);
           first = known_log.puts (int_key m);
+          undecided = known_log.records;
           at = inl (sym known_log.asked);
         };
         records = tt;

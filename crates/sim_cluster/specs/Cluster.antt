@@ -2,7 +2,7 @@ use Rattle.std.specs.Prelude.{◌≡◌, ◌≢◌, ℕ, List, [], ◌∷◌, �
 use Rattle.mr_base.specs.declared.ids.TxnId.{TxnId}
 use Rattle.mr_base.specs.declared.settings.Kind.TheVariants as kinds
 use Rattle.run_laws.specs.Words.{the_node}
-use Rattle.scenario.specs.Lines.{IsTaken}
+use Rattle.scenario.specs.FirstPath.{IsTaken}
 use Rattle.scenario.specs.Names.{NamesOnly}
 use Rattle.scenario.specs.declared.entries.JournalEntry.{JournalEntry}
 use Rattle.scenario.specs.declared.events.Event.{Event}

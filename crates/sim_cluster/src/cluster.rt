@@ -2,7 +2,7 @@
 
 ghost use Rattle.std.specs.Prelude.{◌≡◌, ◌<◌, ◌^◌, ◌++◌, [], reverse, OnOk, OnErr};
 ghost use Rattle.run_laws.specs.LinesRun.{LinesRun, IsNextLine, no_lines, with_line};
-ghost use Rattle.scenario.specs.Lines.{IsTaken};
+ghost use Rattle.scenario.specs.FirstPath.{IsTaken};
 ghost use Rattle.scenario.specs.declared.events.Event.{Event};
 ghost use Rattle.sim_cluster.specs.Bounds.{AreSettings};
 ghost use Rattle.sim_cluster.specs.Cluster.{IsStep, GoesOn, Continues, IsRunOf};
