@@ -1,9 +1,9 @@
 -- Bytes that come one after the other, as lines.
-use Rattle.std.proofs.Common.{◌≡◌, ◌≢◌, ℕ, List, [], ◌∷◌, ◌++◌, Option, Some, None, refl, ap, sym, ◌∙◌, append_assoc, append-nil, inl, inr, subst}
+use Rattle.std.proofs.Common.{◌≡◌, ◌≢◌, ℕ, List, [], ◌∷◌, ◌++◌, Option, refl, ap, sym, ◌∙◌, append_assoc, append-nil}
 use Rattle.std.specs.Prelude.{All}
 use Rattle.std.proofs.lemmas.List.Elements.{All-append, All-cons, All-nil}
 use Rattle.std.specs.Io.KnownBytes.{IsAtEnd}
-use Rattle.mr_shell.specs.Content.{AreLines, AreAllLines, AreFirstLines, BeginsWith, IsContent, IsCut, IsWithinLine, with_last}
+use Rattle.mr_shell.specs.Content.{AreLines, AreAllLines, BeginsWith, IsContent, IsCut, IsWithinLine}
 
 pub cut_nothing : IsCut [] [] []
 cut_nothing = record { front = []; ended = refl; within = All-nil IsWithinLine; whole = refl }

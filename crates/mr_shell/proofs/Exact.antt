@@ -1,11 +1,11 @@
 -- How a run ends, by what its source holds.
-use Rattle.std.proofs.Common.{◌≡◌, ◌≢◌, ℕ, ◌+◌, ◌<◌, ◌≤◌, List, [], ◌∷◌, ◌++◌, Option, Some, None, refl, ap, sym, ◌∙◌, subst, inl, inr, length, length-append, append-nil, arith}
+use Rattle.std.proofs.Common.{◌≡◌, ◌≢◌, ℕ, List, [], ◌∷◌, ◌++◌, Option, Some, None, refl, ap, sym, ◌∙◌, subst, inl, inr, length, length-append, append-nil, arith}
 use Rattle.std.specs.Prelude.{◌⊎◌}
-use Rattle.std.specs.Io.KnownBytes.{IsAtEnd, prepend_known}
+use Rattle.std.specs.Io.KnownBytes.{prepend_known}
 use Rattle.scenario.specs.declared.entries.JournalEntry.{JournalEntry}
-use Rattle.mr_shell.specs.Content.{AreAllLines, AreFirstLines, BeginsWith, IsCut, with_last}
+use Rattle.mr_shell.specs.Content.{AreFirstLines, BeginsWith, IsCut, with_last}
 use Rattle.mr_shell.specs.Ends.{status_of}
-use Rattle.mr_shell.specs.Run.{AreRun, EndsAfter, HasEnded, IsFaultless, IsFaulty, IsTooLarge, IsWithinLimit}
+use Rattle.mr_shell.specs.Run.{HasEnded, IsFaultless, IsFaulty, IsTooLarge, IsWithinLimit}
 use Rattle.mr_shell.specs.Story.{HasFault, Story, Tells}
 use Rattle.mr_shell.specs.declared.outcome.End.{End}
 use Rattle.mr_shell.specs.declared.outcome.End.TheVariants as ends

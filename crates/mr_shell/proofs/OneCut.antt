@@ -1,11 +1,10 @@
 -- Bytes are cut into lines in one way.
-use Rattle.std.proofs.Common.{◌≡◌, ◌≢◌, ℕ, List, [], ◌∷◌, ◌++◌, Option, Some, Bool, true, false, cond, refl, ap, sym, ◌∙◌, subst, append_assoc, append-nil, inl, inr, length, ◌≤◌, arith}
-use Rattle.std.specs.Prelude.{◌⊎◌, All}
+use Rattle.std.proofs.Common.{◌≡◌, ◌≢◌, ℕ, List, [], ◌∷◌, ◌++◌, Some, Bool, true, false, cond, refl, ap, sym, ◌∙◌, subst, append_assoc, append-nil, inl, inr, length, ◌≤◌, arith}
+use Rattle.std.specs.Prelude.{All}
 use Rattle.std.proofs.Math.Dec.{eqb}
 use Rattle.std.proofs.lemmas.Bool.{ne_eqb}
 use Rattle.std.proofs.lemmas.List.Elements.{All-head, All-tail}
-use Rattle.std.specs.Io.KnownBytes.{IsAtEnd}
-use Rattle.mr_shell.specs.Content.{AreAllLines, AreFirstLines, AreLines, BeginsWith, IsContent, IsCut, IsWithinLine, with_last}
+use Rattle.mr_shell.specs.Content.{AreFirstLines, AreLines, BeginsWith, IsContent, IsCut, IsWithinLine, with_last}
 use Rattle.mr_shell.proofs.ContentLemmas.{begins_more}
 
 -- what stands before a line feed, without one carriage return at its end

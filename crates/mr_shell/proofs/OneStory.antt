@@ -1,15 +1,7 @@
 -- Lines tell one story.
-use Rattle.std.proofs.Common.{◌≡◌, ◌≢◌, ℕ, ◌+◌, ◌≤◌, List, [], ◌∷◌, ◌++◌, Option, Some, None, refl, ap, sym, ◌∙◌, subst, inl, inr, length, length-append, arith}
-use Rattle.std.specs.Prelude.{◌⊎◌, codes, slice_index}
-use Rattle.std.specs.Io.KnownBytes.{prepend_known}
-use Rattle.scenario.specs.FirstPath.{HasNoLine, IsSkipped, IsTxnLine, Reads}
+use Rattle.std.proofs.Common.{◌≡◌, ℕ, List, [], ◌∷◌, ◌++◌, ap, sym, ◌∙◌, subst}
+use Rattle.scenario.specs.FirstPath.{Reads}
 use Rattle.scenario.specs.FirstSeen.{Seen}
-use Rattle.scenario.specs.declared.entries.JournalEntry.{JournalEntry}
-use Rattle.scenario.specs.declared.events.Event.TheVariants as events
-use Rattle.scenario.specs.declared.lines.Line.{Line}
-use Rattle.scenario.specs.declared.lines.Line.TheVariants as lines
-use Rattle.scenario.specs.declared.first_path.Expected.{Expected}
-use Rattle.scenario.specs.declared.first_path.Expected.TheVariants as expected
 use Rattle.mr_shell.specs.Story.{HasFault, Story, Tells}
 use Rattle.mr_shell.proofs.OneReading.{one_reading}
 

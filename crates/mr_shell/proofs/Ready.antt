@@ -1,15 +1,13 @@
-use Rattle.std.proofs.Common.{◌≡◌, ◌≢◌, ℕ, List, [], ◌∷◌, ◌++◌, inl, inr, sym, refl, ap, ◌∙◌, subst, lit≤}
+use Rattle.std.proofs.Common.{◌≡◌, ◌≢◌, ℕ, List, [], inl, inr, sym, ap, ◌∙◌, subst, lit≤}
 use Rattle.mr_base.specs.declared.settings.Settings.{Settings}
 use Rattle.scenario.specs.FirstPath.{Reads, the_standard_settings}
 use Rattle.scenario.specs.FirstSeen.{Seen}
 use Rattle.scenario.specs.declared.entries.JournalEntry.{JournalEntry}
-use Rattle.scenario.specs.declared.events.Event.{Event}
 use Rattle.scenario.specs.declared.events.Event.TheVariants as events
 use Rattle.scenario.specs.declared.lines.Line.{Line}
 use Rattle.scenario.specs.declared.lines.Line.TheVariants as lines
 use Rattle.scenario.specs.declared.first_path.Expected.TheVariants as expected
 use Rattle.sim_cluster.specs.Bounds.{AreSettings}
-use Rattle.sim_cluster.specs.Cluster.{IsStep, GoesOn}
 use Rattle.sim_cluster.specs.View.{View}
 use Rattle.mr_shell.specs.Session.{IsReady, MayRun}
 

@@ -1,19 +1,19 @@
 -- Why a run ends, as what was taken grows.
-use Rattle.std.proofs.Common.{◌≡◌, ◌≢◌, ℕ, ◌+◌, List, [], ◌∷◌, ◌++◌, Option, refl, ap, sym, ◌∙◌, append_assoc, append-nil, inl, inr, subst, take, drop, length, get_or, ◌<◌, take-append-drop, take-suc, add-one, Bool, true, false}
-use Rattle.std.specs.Prelude.{◌⊎◌, ◌==◌}
+use Rattle.std.proofs.Common.{◌≡◌, ◌≢◌, ℕ, ◌+◌, List, [], ◌∷◌, ◌++◌, Option, refl, ap, sym, ◌∙◌, append_assoc, append-nil, inl, inr, subst, take, drop, length, get_or, ◌<◌, take-append-drop, take-suc, add-one, false}
+use Rattle.std.specs.Prelude.{◌==◌}
 use Rattle.std.proofs.lemmas.List.{drop_more}
 use Rattle.std.specs.Io.KnownBytes.{append_known, prepend_known, IsAtEnd}
 use Rattle.mr_io.proofs.Told.{prepend_known-nil, prepend_known-prepend}
 use Rattle.scenario.specs.declared.entries.JournalEntry.{JournalEntry}
-use Rattle.mr_shell.specs.Content.{AreAllLines, AreFirstLines, BeginsWith, IsCut, IsContent, with_last}
-use Rattle.mr_shell.specs.Run.{AreRun, IsWithinLimit, EndsSaying, EndsWith, EndsUnsaid, HasEnded, ShowsAll, report_of}
+use Rattle.mr_shell.specs.Content.{AreFirstLines, BeginsWith, IsCut, IsContent, with_last}
+use Rattle.mr_shell.specs.Run.{IsWithinLimit, ShowsAll, report_of}
 use Rattle.mr_shell.specs.Session.{HasRun, HasTaken, Stops, StopsAt, StopsWithin}
-use Rattle.mr_shell.specs.Texts.{Wrote, Says, last_line}
+use Rattle.mr_shell.specs.Texts.{Wrote}
 use Rattle.mr_shell.specs.declared.outcome.End.{End}
 use Rattle.mr_shell.specs.declared.outcome.End.TheVariants as ends
 use Rattle.mr_shell.specs.declared.session.Session.{Session}
-use Rattle.mr_shell.proofs.ContentLemmas.{all_with_last, all_without_last, begins, begins_more, begins_whole, cut_ended, cut_more, lines_more}
-use Rattle.mr_shell.proofs.RunLemmas.{shows_all, wrote-more, wrote-same}
+use Rattle.mr_shell.proofs.ContentLemmas.{all_with_last, begins, begins_more, begins_whole, cut_ended, cut_more, lines_more}
+use Rattle.mr_shell.proofs.RunLemmas.{shows_all}
 
 pub shows_run : (lines : List (List ℕ)) (start : Option (List ℕ)) (session : Session) (written : Option (List ℕ)) → HasRun lines start session written → ShowsAll lines start session.cluster.journal written
 shows_run lines start session written h = shows_all lines h.story session.settings session.cluster start written h.tells h.follows

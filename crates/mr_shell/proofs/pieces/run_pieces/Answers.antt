@@ -1,7 +1,7 @@
-use Rattle.std.proofs.Common.{◌≡◌, ◌+◌, ◌<◌, ◌≤◌, ◌++◌, ℕ, List, Option, ap, sym, ◌∙◌, arith, subst, take, length, length-append, length-take-le}
+use Rattle.std.proofs.Common.{◌≡◌, ◌+◌, ◌<◌, ◌≤◌, ◌++◌, ℕ, List, ap, sym, ◌∙◌, arith, subst, take, length, length-append, length-take-le}
 use Rattle.std.proofs.lemmas.Result.{IfErr-weaker, err_from_is_err_and}
 use Rattle.std.specs.Io.KnownBytes.{IsAtEnd, prepend_known}
-use Rattle.mr_shell.specs.Session.{HasTaken, StopsWithin}
+use Rattle.mr_shell.specs.Session.{HasTaken}
 use Rattle.mr_shell.proofs.StopLemmas.{stops_size, stops_within, told_more, told_none}
 use Rattle.mr_shell.proofs.pieces.run_pieces.Goals as goal
 
