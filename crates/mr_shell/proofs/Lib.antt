@@ -5,7 +5,6 @@ pub mod NextLine
 pub mod OneCut
 pub mod OneReading
 pub mod OneStory
-pub mod Ready
 pub mod RunLemmas
 pub mod RunLines
 pub mod StopLemmas

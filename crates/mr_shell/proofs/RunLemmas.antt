@@ -32,9 +32,6 @@ use Rattle.mr_shell.specs.Texts.{texts, journal_text, Wrote}
 pub wrote-more : (start mid written : Option (List ℕ)) (xs ys : List ℕ) → Wrote start mid xs → Wrote mid written ys → Wrote start written (xs ++ ys)
 wrote-more start mid written xs ys h k = k ∙ (ap (λ (o : Option (List ℕ)). append_known o ys) h ∙ append_known-append start xs ys)
 
-pub wrote-nothing : (start : Option (List ℕ)) → Wrote start start []
-wrote-nothing start = append_known-nil start
-
 pub wrote-same : (start written : Option (List ℕ)) → Wrote start written [] → written ≡ start
 wrote-same start written h = h ∙ sym (append_known-nil start)
 

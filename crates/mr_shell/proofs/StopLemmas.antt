@@ -12,7 +12,7 @@ use Rattle.mr_shell.specs.Texts.{Wrote}
 use Rattle.mr_shell.specs.declared.outcome.End.{End}
 use Rattle.mr_shell.specs.declared.outcome.End.TheVariants as ends
 use Rattle.mr_shell.specs.declared.session.Session.{Session}
-use Rattle.mr_shell.proofs.ContentLemmas.{all_with_last, begins, begins_more, begins_whole, cut_ended, cut_more, lines_more}
+use Rattle.mr_shell.proofs.ContentLemmas.{all_with_last, begins, begins_more, begins_whole, cut_ended, lines_more}
 use Rattle.mr_shell.proofs.RunLemmas.{shows_all}
 
 pub shows_run : (lines : List (List ℕ)) (start : Option (List ℕ)) (session : Session) (written : Option (List ℕ)) → HasRun lines start session written → ShowsAll lines start session.cluster.journal written
@@ -20,10 +20,6 @@ shows_run lines start session written h = shows_all lines h.story session.settin
 
 nothing_said : (start written : Option (List ℕ)) (text : List ℕ) → Wrote start written text → Wrote start written (text ++ [])
 nothing_said start written text w = w ∙ ap (append_known start) (sym (append-nil text))
-
--- a byte within a line was taken
-pub taken_within : (taken : List ℕ) (start : Option (List ℕ)) (session : Session) (pending : List ℕ) (written : Option (List ℕ)) (b : ℕ) → b ≢ 10 → HasTaken taken start session pending written → HasTaken (taken ++ b ∷ []) start session (pending ++ b ∷ []) written
-taken_within taken start session pending written b other h = record { lines = h.lines; cut = cut_more taken h.lines pending b other h.cut; run = h.run }
 
 -- a line's end was taken, and the line was run
 pub taken_line : (taken : List ℕ) (lines : List (List ℕ)) (start : Option (List ℕ)) (b : ℕ) (raw pending line after : List ℕ) (session : Session) (written : Option (List ℕ)) → b ≡ 10 → raw ≡ pending → after ≡ [] → IsContent raw line → IsCut taken lines pending → HasRun (line ∷ lines) start session written → HasTaken (taken ++ b ∷ []) start session after written

@@ -1,5 +1,5 @@
 -- The text of entries, as they are written one after the other.
-use Rattle.std.proofs.Common.{◌≡◌, ℕ, ◌+◌, ◌<◌, ◌≤◌, List, ◌∷◌, ◌++◌, Option, ap, sym, ◌∙◌, length, take, drop, get_or, take-append-drop, take-take, true, arith}
+use Rattle.std.proofs.Common.{◌≡◌, ℕ, ◌+◌, ◌<◌, List, ◌∷◌, ◌++◌, Option, ap, sym, ◌∙◌, length, take, drop, get_or, take-append-drop, true}
 use Rattle.std.specs.Prelude.{Result, Ok, Err, OnErr}
 use Rattle.std.specs.Result.{is_err}
 use Rattle.std.proofs.lemmas.List.{drop_more, take-append-le}
@@ -35,7 +35,3 @@ some_text names entries i e text start mid written h is shows w p =
     ap (take (length shown + p.0)) (split_texts names entries i e h is) ∙ (take-append-add shown (entry_text names mode.Answers e ++ texts names (drop (i + 1) entries)) p.0
     ∙ ap (λ (l : List ℕ). shown ++ l) (ap (λ (l : List ℕ). take p.0 (l ++ texts names (drop (i + 1) entries))) (sym shows) ∙ take-append-le p.0 text (texts names (drop (i + 1) entries)) p.1)) in
     (length shown + p.0, wrote-more start mid written shown (take p.0 text) w p.2 ∙ ap (append_known start) (sym front))
-
--- the first bytes of a piece that stands at the front of a buffer
-pub take_front : (n m : ℕ) (xs ys : List ℕ) → n ≤ length xs → length xs ≤ m → take n (take m (xs ++ ys)) ≡ take n xs
-take_front n m xs ys h k = take-take n m (xs ++ ys) (omega (arith, h, k)) ∙ take-append-le n xs ys h
