@@ -1,12 +1,9 @@
 -- Bytes that come one after the other, as lines.
-use Rattle.std.proofs.Common.{◌≡◌, ◌≢◌, ℕ, List, [], ◌∷◌, ◌++◌, Option, Some, None, refl, ap, sym, ◌∙◌, append_assoc, append-nil, inl, inr, subst}
+use Rattle.std.proofs.Common.{◌≢◌, ℕ, List, [], ◌∷◌, ◌++◌, Option, refl, ap, sym, ◌∙◌, append_assoc, append-nil}
 use Rattle.std.specs.Prelude.{All}
 use Rattle.std.proofs.lemmas.List.Elements.{All-append, All-cons, All-nil}
 use Rattle.std.specs.Io.KnownBytes.{IsAtEnd}
-use Rattle.mr_shell.specs.Content.{AreLines, AreAllLines, AreFirstLines, BeginsWith, IsContent, IsCut, IsWithinLine, with_last}
-
-pub cut_nothing : IsCut [] [] []
-cut_nothing = record { front = []; ended = refl; within = All-nil IsWithinLine; whole = refl }
+use Rattle.mr_shell.specs.Content.{AreLines, AreAllLines, BeginsWith, IsContent, IsCut, IsWithinLine}
 
 all_and : (P : ℕ → Type 0) (xs : List ℕ) (b : ℕ) → All P xs → P b → All P (xs ++ b ∷ [])
 all_and P xs b h k = All-append P xs (b ∷ []) h (All-cons P b [] k (All-nil P))
@@ -34,10 +31,6 @@ begins_whole taken lines h = record { front = taken; beyond = []; ended = h; who
 pub begins_more : (taken more : List ℕ) (lines : List (List ℕ)) → BeginsWith taken lines → BeginsWith (taken ++ more) lines
 begins_more taken more lines h =
     record { front = h.front; beyond = h.beyond ++ more; ended = h.ended; whole = ap (λ (l : List ℕ). l ++ more) h.whole ∙ append_assoc h.front h.beyond more }
-
--- the lines of a source that has ended
-pub all_without_last : (taken : List ℕ) (left : Option (List ℕ)) (lines : List (List ℕ)) (rest : List ℕ) → rest ≡ [] → IsCut taken lines rest → IsAtEnd left → AreAllLines taken left lines
-all_without_last taken left lines rest e cut at_end = record { ended = lines; rest = rest; cut = cut; last = rw e refl; source = at_end }
 
 pub all_with_last : (taken : List ℕ) (left : Option (List ℕ)) (lines : List (List ℕ)) (rest : List ℕ) → rest ≢ [] → IsCut taken lines rest → IsAtEnd left → AreAllLines taken left (rest ∷ lines)
 all_with_last taken left lines [] some cut at_end = absurd (some refl)

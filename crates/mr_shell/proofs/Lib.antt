@@ -1,10 +1,10 @@
 pub mod ContentLemmas
 pub mod EndLemmas
+pub mod Exact
 pub mod NextLine
 pub mod OneCut
 pub mod OneReading
 pub mod OneStory
-pub mod Ready
 pub mod RunLemmas
 pub mod RunLines
 pub mod StopLemmas

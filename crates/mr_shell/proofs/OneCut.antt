@@ -1,11 +1,10 @@
 -- Bytes are cut into lines in one way.
-use Rattle.std.proofs.Common.{◌≡◌, ◌≢◌, ℕ, List, [], ◌∷◌, ◌++◌, Option, Some, Bool, true, false, cond, refl, ap, sym, ◌∙◌, subst, append_assoc, append-nil, inl, inr}
-use Rattle.std.specs.Prelude.{◌⊎◌, All}
+use Rattle.std.proofs.Common.{◌≡◌, ◌≢◌, ℕ, List, [], ◌∷◌, ◌++◌, Some, Bool, true, false, cond, refl, ap, sym, ◌∙◌, subst, append_assoc, append-nil, inl, inr, length, ◌≤◌, arith}
+use Rattle.std.specs.Prelude.{All}
 use Rattle.std.proofs.Math.Dec.{eqb}
 use Rattle.std.proofs.lemmas.Bool.{ne_eqb}
 use Rattle.std.proofs.lemmas.List.Elements.{All-head, All-tail}
-use Rattle.std.specs.Io.KnownBytes.{IsAtEnd}
-use Rattle.mr_shell.specs.Content.{AreAllLines, AreFirstLines, AreLines, BeginsWith, IsContent, IsCut, IsWithinLine, with_last}
+use Rattle.mr_shell.specs.Content.{AreFirstLines, AreLines, BeginsWith, IsContent, IsCut, IsWithinLine, with_last}
 use Rattle.mr_shell.proofs.ContentLemmas.{begins_more}
 
 -- what stands before a line feed, without one carriage return at its end
@@ -83,7 +82,7 @@ one_cut bytes a b r q h k =
     (ap (λ (s : Scan). s.lines) e, ap (λ (s : Scan). s.begun) e)
 
 -- lines that bytes begin with are the oldest of all their lines
-begins_first : (bytes : List ℕ) (lines all : List (List ℕ)) (rest : List ℕ) → BeginsWith bytes lines → IsCut bytes all rest → (later : List (List ℕ)) × (all ≡ later ++ lines)
+pub begins_first : (bytes : List ℕ) (lines all : List (List ℕ)) (rest : List ℕ) → BeginsWith bytes lines → IsCut bytes all rest → (later : List (List ℕ)) × (all ≡ later ++ lines)
 begins_first bytes lines all rest h cut =
     let g = scan-grows h.beyond (scanned lines []) in
     let e : scan bytes (scanned [] []) ≡ scan h.beyond (scanned lines []) =
@@ -102,3 +101,13 @@ first_of_all taken left lines all rest (inr h) cut =
     let whole : taken ++ left ≡ taken = ap (λ (l : List ℕ). taken ++ l) h.source ∙ append-nil taken in
     let same = one_cut taken all h.ended rest h.rest (subst (λ (l : List ℕ). IsCut l all rest) whole cut) h.cut in
     ([], ap (λ (r : List ℕ). with_last r all) same.1 ∙ (ap (with_last h.rest) same.0 ∙ sym h.last))
+
+-- bytes that end within the first ones begin these
+pub within_first : (taken left first beyond : List ℕ) → taken ++ left ≡ first ++ beyond → length taken ≤ length first → (more : List ℕ) × (first ≡ taken ++ more)
+within_first [] left first beyond e h = (first, refl)
+within_first (t ∷ taken) left [] beyond e h = absurd (omega (arith, h))
+within_first (t ∷ taken) left (f ∷ first) beyond e h =
+    let same : f ≡ t = cc in
+    let rest : taken ++ left ≡ first ++ beyond = cc in
+    let r = within_first taken left first beyond rest (omega (arith, h)) in
+    (r.0, ap (λ (l : List ℕ). f ∷ l) r.1 ∙ ap (λ (x : ℕ). x ∷ (taken ++ r.0)) same)

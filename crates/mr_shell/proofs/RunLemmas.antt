@@ -1,10 +1,10 @@
 -- What a run has written, as its lines are read and its entries made.
-use Rattle.std.proofs.Common.{◌≡◌, ◌≢◌, ℕ, ◌+◌, ◌<◌, ◌≤◌, List, [], ◌∷◌, ◌++◌, Option, Some, None, refl, ap, sym, ◌∙◌, append_assoc, append-nil, inl, inr, subst, length, length-append, take, drop, arith}
-use Rattle.std.specs.Prelude.{◌⊎◌, reverse, All}
+use Rattle.std.proofs.Common.{◌≡◌, ℕ, ◌+◌, ◌<◌, ◌≤◌, List, [], ◌∷◌, ◌++◌, Option, refl, ap, sym, ◌∙◌, append_assoc, append-nil, inl, inr, subst, length, length-append, take, drop, arith}
+use Rattle.std.specs.Prelude.{reverse}
 use Rattle.std.specs.List.{flat_map}
 use Rattle.std.proofs.lemmas.List.{reverse-append, reverse-reverse}
 use Rattle.std.proofs.Math.Seq.{drop-append_seam}
-use Rattle.std.specs.Io.KnownBytes.{append_known, prepend_known, IsAtEnd}
+use Rattle.std.specs.Io.KnownBytes.{append_known}
 use Rattle.mr_base.specs.declared.ids.TxnId.{TxnId}
 use Rattle.mr_io.proofs.Told.{append_known-append, append_known-nil}
 use Rattle.scenario.specs.EntryText.{entry_text}
@@ -22,18 +22,15 @@ use Rattle.scenario.proofs.NamesOnly.{NamesOnly-append, NamesOnly-reverse, Names
 use Rattle.sim_cluster.specs.Cluster.{GoesOn, IsOf, IsRunOf}
 use Rattle.sim_cluster.specs.View.{View}
 use Rattle.mr_base.specs.declared.settings.Settings.{Settings}
-use Rattle.mr_shell.specs.Run.{AreRun, RunsLine, ShowsAll, ShowsEntries, ShowsPart, report_of}
+use Rattle.mr_shell.specs.Run.{RunsLine, ShowsAll, ShowsEntries, ShowsPart}
 use Rattle.mr_shell.specs.Session.{Follows}
-use Rattle.run_laws.specs.LinesRun.{LinesRun, with_line}
+use Rattle.run_laws.specs.LinesRun.{with_line}
 use Rattle.mr_shell.specs.Story.{Story, Tells, run_with}
 use Rattle.mr_shell.specs.Texts.{texts, journal_text, Wrote}
 
 -- what was written in two pieces
 pub wrote-more : (start mid written : Option (List ℕ)) (xs ys : List ℕ) → Wrote start mid xs → Wrote mid written ys → Wrote start written (xs ++ ys)
 wrote-more start mid written xs ys h k = k ∙ (ap (λ (o : Option (List ℕ)). append_known o ys) h ∙ append_known-append start xs ys)
-
-pub wrote-nothing : (start : Option (List ℕ)) → Wrote start start []
-wrote-nothing start = append_known-nil start
 
 pub wrote-same : (start written : Option (List ℕ)) → Wrote start written [] → written ≡ start
 wrote-same start written h = h ∙ sym (append_known-nil start)

@@ -1,12 +1,10 @@
 -- A session, as its lines are read and run.
-use Rattle.std.proofs.Common.{◌≡◌, ◌≢◌, ℕ, ◌+◌, ◌<◌, ◌≤◌, List, [], ◌∷◌, ◌++◌, Option, refl, ap, sym, ◌∙◌, subst, inl, inr, length, take, drop, add-one}
+use Rattle.std.proofs.Common.{◌≡◌, ℕ, ◌+◌, ◌<◌, List, [], ◌∷◌, Option, refl, ap, sym, ◌∙◌, subst, inl, inr, length, take, drop, add-one}
 use Rattle.std.specs.Prelude.{◌⊎◌, reverse}
 use Rattle.std.specs.Io.KnownBytes.{append_known}
 use Rattle.mr_base.specs.declared.byte_string.Bytes.{Bytes}
 use Rattle.mr_base.specs.declared.settings.Settings.{Settings}
-use Rattle.scenario.specs.FirstPath.{Reads}
 use Rattle.scenario.specs.Names.{NamesOnly}
-use Rattle.scenario.specs.FirstSeen.{Seen}
 use Rattle.scenario.specs.declared.entries.JournalEntry.{JournalEntry}
 use Rattle.scenario.specs.declared.events.Event.{Event}
 use Rattle.scenario.specs.declared.lines.Line.{Line}
@@ -14,7 +12,7 @@ use Rattle.scenario.specs.declared.lines.Line.TheVariants as lines
 use Rattle.sim_cluster.specs.Cluster.{GoesOn, IsRunOf}
 use Rattle.sim_cluster.specs.View.{View}
 use Rattle.mr_shell.specs.Run.{report_of}
-use Rattle.mr_shell.specs.Session.{Follows, HasRead, HasRun, StopsAt}
+use Rattle.mr_shell.specs.Session.{HasRead, HasRun, StopsAt}
 use Rattle.run_laws.specs.LinesRun.{IsNextLine, LinesRun, with_line}
 use Rattle.mr_shell.specs.Story.{run_with}
 use Rattle.mr_shell.specs.Texts.{ShowsSome, Wrote, journal_text, texts}
@@ -22,7 +20,7 @@ use Rattle.mr_shell.specs.declared.outcome.End.{End}
 use Rattle.mr_shell.specs.declared.outcome.End.TheVariants as ends
 use Rattle.mr_shell.specs.declared.session.Session.{Session}
 use Rattle.mr_shell.proofs.NextLine.{is_next_line}
-use Rattle.mr_shell.proofs.RunLemmas.{follows_event, follows_names, fresh_entries, shows_all, shows_entries, shows_part}
+use Rattle.mr_shell.proofs.RunLemmas.{follows_event, follows_names, fresh_entries, shows_entries, shows_part}
 
 -- a line that makes no entry and leaves the cluster
 pub has_run_quiet : (line : Line) (text : List ℕ) (before : List (List ℕ)) (start written : Option (List ℕ)) (session : Session) → (line ≡ lines.Skipped) ⊎ ((sql : Bytes) × (line ≡ lines.Sql sql)) → HasRead line text before start session written → HasRun (text ∷ before) start session written
@@ -88,19 +86,3 @@ stops_at_event ends.Usage text before start mid written session cluster e was is
 stops_at_event ends.Read text before start mid written session cluster e was is names entries law then now same after goes w h = absurd w
 stops_at_event ends.Size text before start mid written session cluster e was is names entries law then now same after goes w h = absurd w
 stops_at_event (ends.Fault fault number) text before start mid written session cluster e was is names entries law then now same after goes w h = absurd w
-
--- memory ran out before the cluster ran the line
-pub stops_unrun : (line : Line) (text : List ℕ) (before : List (List ℕ)) (start written : Option (List ℕ)) (session : Session) (cluster : View) → cluster ≡ session.cluster → HasRead line text before start session written → StopsAt ends.Memory text before start cluster.journal written
-stops_unrun line text before start written session cluster same h =
-    subst (λ (v : View). StopsAt ends.Memory text before start v.journal written) (sym same) (inl (shows_all before h.story session.settings session.cluster start written h.tells h.follows))
-
--- the next line is read
-pub has_read : (line : Line) (text : List ℕ) (before : List (List ℕ)) (start written : Option (List ℕ)) (session : Session) (session' : Session) → Reads session.scenario text line session'.scenario → session'.settings ≡ session.settings → session'.cluster ≡ session.cluster → session'.lines ≡ session.lines + 1 → HasRun before start session written → HasRead line text before start session' written
-has_read line text before start written session session' read made same number h =
-    record {
-      story = h.story;
-      tells = h.tells;
-      read = subst (λ (s : Seen). Reads s text line session'.scenario) h.seen read;
-      number = number ∙ ap (λ (n : ℕ). n + 1) h.number;
-      follows = subst (λ (v : View). Follows h.story session'.settings v start written) (sym same) (subst (λ (s : Settings). Follows h.story s session.cluster start written) (sym made) h.follows);
-    }

@@ -1,29 +1,25 @@
 -- Why a run ends, as what was taken grows.
-use Rattle.std.proofs.Common.{◌≡◌, ◌≢◌, ℕ, ◌+◌, List, [], ◌∷◌, ◌++◌, Option, refl, ap, sym, ◌∙◌, append_assoc, append-nil, inl, inr, subst, take, drop, length, get_or, ◌<◌, take-append-drop, take-suc, add-one, Bool, true, false}
-use Rattle.std.specs.Prelude.{◌⊎◌, ◌==◌}
+use Rattle.std.proofs.Common.{◌≡◌, ◌≢◌, ℕ, ◌+◌, List, [], ◌∷◌, ◌++◌, Option, refl, ap, sym, ◌∙◌, append_assoc, append-nil, inl, inr, subst, take, drop, length, get_or, ◌<◌, take-append-drop, take-suc, add-one, false}
+use Rattle.std.specs.Prelude.{◌==◌}
 use Rattle.std.proofs.lemmas.List.{drop_more}
 use Rattle.std.specs.Io.KnownBytes.{append_known, prepend_known, IsAtEnd}
 use Rattle.mr_io.proofs.Told.{prepend_known-nil, prepend_known-prepend}
 use Rattle.scenario.specs.declared.entries.JournalEntry.{JournalEntry}
-use Rattle.mr_shell.specs.Content.{AreAllLines, AreFirstLines, BeginsWith, IsCut, IsContent, with_last}
-use Rattle.mr_shell.specs.Run.{AreRun, EndsSaying, EndsWith, EndsUnsaid, HasEnded, ShowsAll, report_of}
+use Rattle.mr_shell.specs.Content.{AreFirstLines, BeginsWith, IsCut, IsContent, with_last}
+use Rattle.mr_shell.specs.Run.{IsWithinLimit, ShowsAll, report_of}
 use Rattle.mr_shell.specs.Session.{HasRun, HasTaken, Stops, StopsAt, StopsWithin}
-use Rattle.mr_shell.specs.Texts.{Wrote, Says, last_line}
+use Rattle.mr_shell.specs.Texts.{Wrote}
 use Rattle.mr_shell.specs.declared.outcome.End.{End}
 use Rattle.mr_shell.specs.declared.outcome.End.TheVariants as ends
 use Rattle.mr_shell.specs.declared.session.Session.{Session}
-use Rattle.mr_shell.proofs.ContentLemmas.{all_with_last, all_without_last, begins, begins_more, begins_whole, cut_ended, cut_more, lines_more}
-use Rattle.mr_shell.proofs.RunLemmas.{shows_all, wrote-more, wrote-same}
+use Rattle.mr_shell.proofs.ContentLemmas.{all_with_last, begins, begins_more, begins_whole, cut_ended, lines_more}
+use Rattle.mr_shell.proofs.RunLemmas.{shows_all}
 
 pub shows_run : (lines : List (List ℕ)) (start : Option (List ℕ)) (session : Session) (written : Option (List ℕ)) → HasRun lines start session written → ShowsAll lines start session.cluster.journal written
 shows_run lines start session written h = shows_all lines h.story session.settings session.cluster start written h.tells h.follows
 
 nothing_said : (start written : Option (List ℕ)) (text : List ℕ) → Wrote start written text → Wrote start written (text ++ [])
 nothing_said start written text w = w ∙ ap (append_known start) (sym (append-nil text))
-
--- a byte within a line was taken
-pub taken_within : (taken : List ℕ) (start : Option (List ℕ)) (session : Session) (pending : List ℕ) (written : Option (List ℕ)) (b : ℕ) → b ≢ 10 → HasTaken taken start session pending written → HasTaken (taken ++ b ∷ []) start session (pending ++ b ∷ []) written
-taken_within taken start session pending written b other h = record { lines = h.lines; cut = cut_more taken h.lines pending b other h.cut; run = h.run }
 
 -- a line's end was taken, and the line was run
 pub taken_line : (taken : List ℕ) (lines : List (List ℕ)) (start : Option (List ℕ)) (b : ℕ) (raw pending line after : List ℕ) (session : Session) (written : Option (List ℕ)) → b ≡ 10 → raw ≡ pending → after ≡ [] → IsContent raw line → IsCut taken lines pending → HasRun (line ∷ lines) start session written → HasTaken (taken ++ b ∷ []) start session after written
@@ -59,41 +55,30 @@ first_shorter taken left text lines (inl h) = inl (shorter taken text lines h)
 first_shorter taken left text lines (inr h) = inl (shorter_all taken text lines h.ended h.rest h.last h.cut)
 
 -- a line ended the run
-pub stops_line : (end : End) (taken : List ℕ) (left : Option (List ℕ)) (text : List ℕ) (lines : List (List ℕ)) (start : Option (List ℕ)) (journal : List JournalEntry) (written : Option (List ℕ)) → AreFirstLines taken left (text ∷ lines) → AreFirstLines taken left lines → StopsAt end text lines start journal written → Stops end taken left start journal written
-stops_line (ends.Fault fault number) taken left text lines start journal written with_line without h =
-    (lines, h.1, (text, with_line, h.2, h.0), h.3, nothing_said start written (report_of h.1 journal) h.4)
-stops_line ends.Memory taken left text lines start journal written with_line without (inl h) = inl (lines, without, h)
-stops_line ends.Memory taken left text lines start journal written with_line without (inr h) = inr (text, lines, with_line, h)
-stops_line ends.Write taken left text lines start journal written with_line without h = (text, lines, with_line, h)
-stops_line ends.Whole taken left text lines start journal written with_line without h = absurd h
-stops_line ends.Usage taken left text lines start journal written with_line without h = absurd h
-stops_line ends.Read taken left text lines start journal written with_line without h = absurd h
-stops_line ends.Size taken left text lines start journal written with_line without h = absurd h
+pub stops_line : (end : End) (taken : List ℕ) (left : Option (List ℕ)) (text : List ℕ) (lines : List (List ℕ)) (start : Option (List ℕ)) (journal : List JournalEntry) (written : Option (List ℕ)) → AreFirstLines taken left (text ∷ lines) → AreFirstLines taken left lines → IsWithinLimit taken → StopsAt end text lines start journal written → Stops end taken left start journal written
+stops_line (ends.Fault fault number) taken left text lines start journal written with_line without within h =
+    (lines, h.1, (text, with_line, h.2, h.0, within), h.3, nothing_said start written (report_of h.1 journal) h.4)
+stops_line ends.Memory taken left text lines start journal written with_line without within (inl h) = (within, inl (lines, without, h))
+stops_line ends.Memory taken left text lines start journal written with_line without within (inr h) = (within, inr (text, lines, with_line, h))
+stops_line ends.Write taken left text lines start journal written with_line without within h = (within, text, lines, with_line, h)
+stops_line ends.Whole taken left text lines start journal written with_line without within h = absurd h
+stops_line ends.Usage taken left text lines start journal written with_line without within h = absurd h
+stops_line ends.Read taken left text lines start journal written with_line without within h = absurd h
+stops_line ends.Size taken left text lines start journal written with_line without within h = absurd h
 
-pub stops_within : (end : End) (taken : List ℕ) (left start : Option (List ℕ)) (journal : List JournalEntry) (written : Option (List ℕ)) → StopsWithin end taken start journal written → Stops end taken left start journal written
-stops_within end taken left start journal written (inl h) = stops_line end taken left h.0 h.1 start journal written (inl h.2) (inl (shorter taken h.0 h.1 h.2)) h.3
-stops_within end taken left start journal written (inr h) = subst (λ (e : End). Stops e taken left start journal written) (sym h.0) (inl (h.1, inl h.2, h.3))
+pub stops_within : (end : End) (taken : List ℕ) (left start : Option (List ℕ)) (journal : List JournalEntry) (written : Option (List ℕ)) → IsWithinLimit taken → StopsWithin end taken start journal written → Stops end taken left start journal written
+stops_within end taken left start journal written within (inl h) = stops_line end taken left h.0 h.1 start journal written (inl h.2) (inl (shorter taken h.0 h.1 h.2)) within h.3
+stops_within end taken left start journal written within (inr h) = subst (λ (e : End). Stops e taken left start journal written) (sym h.0) (within, inl (h.1, inl h.2, h.3))
 
 -- the source has ended
-pub whole_without_last : (taken : List ℕ) (left start : Option (List ℕ)) (session : Session) (pending : List ℕ) (written : Option (List ℕ)) → HasTaken taken start session pending written → IsAtEnd left → pending ≡ [] → Stops ends.Whole taken left start session.cluster.journal written
-whole_without_last taken left start session pending written h at_end none =
-    let s = shows_run h.lines start session written h.run in
-    (h.lines, s.0, all_without_last taken left h.lines pending none h.cut at_end, s.1, nothing_said start written (report_of s.0 session.cluster.journal) s.2)
-
-pub whole_with_last : (taken : List ℕ) (lines : List (List ℕ)) (left start : Option (List ℕ)) (session : Session) (pending : List ℕ) (written : Option (List ℕ)) → IsCut taken lines pending → IsAtEnd left → pending ≢ [] → HasRun (pending ∷ lines) start session written → Stops ends.Whole taken left start session.cluster.journal written
-whole_with_last taken lines left start session pending written cut at_end some run =
+pub whole_with_last : (taken : List ℕ) (lines : List (List ℕ)) (left start : Option (List ℕ)) (session : Session) (pending : List ℕ) (written : Option (List ℕ)) → IsCut taken lines pending → IsAtEnd left → IsWithinLimit taken → pending ≢ [] → HasRun (pending ∷ lines) start session written → Stops ends.Whole taken left start session.cluster.journal written
+whole_with_last taken lines left start session pending written cut at_end within some run =
     let s = shows_run (pending ∷ lines) start session written run in
-    (pending ∷ lines, s.0, all_with_last taken left lines pending some cut at_end, s.1, nothing_said start written (report_of s.0 session.cluster.journal) s.2)
+    (pending ∷ lines, s.0, (all_with_last taken left lines pending some cut at_end, within), s.1, nothing_said start written (report_of s.0 session.cluster.journal) s.2)
 
-pub stops_last : (end : End) (taken : List ℕ) (lines : List (List ℕ)) (left start : Option (List ℕ)) (pending : List ℕ) (journal : List JournalEntry) (written : Option (List ℕ)) → IsCut taken lines pending → IsAtEnd left → pending ≢ [] → StopsAt end pending lines start journal written → Stops end taken left start journal written
-stops_last end taken lines left start pending journal written cut at_end some h =
-    stops_line end taken left pending lines start journal written (inr (all_with_last taken left lines pending some cut at_end)) (inl (begins taken lines pending cut)) h
-
--- a read failed
-pub stops_unread : (taken : List ℕ) (left start : Option (List ℕ)) (session : Session) (pending : List ℕ) (written : Option (List ℕ)) → HasTaken taken start session pending written → Stops ends.Read taken left start session.cluster.journal written
-stops_unread taken left start session pending written h =
-    let s = shows_run h.lines start session written h.run in
-    (h.lines, s.0, (pending, h.cut), s.1, nothing_said start written (report_of s.0 session.cluster.journal) s.2)
+pub stops_last : (end : End) (taken : List ℕ) (lines : List (List ℕ)) (left start : Option (List ℕ)) (pending : List ℕ) (journal : List JournalEntry) (written : Option (List ℕ)) → IsCut taken lines pending → IsAtEnd left → IsWithinLimit taken → pending ≢ [] → StopsAt end pending lines start journal written → Stops end taken left start journal written
+stops_last end taken lines left start pending journal written cut at_end within some h =
+    stops_line end taken left pending lines start journal written (inr (all_with_last taken left lines pending some cut at_end)) (inl (begins taken lines pending cut)) within h
 
 -- bytes that some are
 pub not_empty : (xs : List ℕ) → (length xs == 0) ≡ false → xs ≢ []

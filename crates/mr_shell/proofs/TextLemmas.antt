@@ -1,13 +1,11 @@
 -- The text of entries, as they are written one after the other.
-use Rattle.std.proofs.Common.{◌≡◌, ℕ, ◌+◌, ◌<◌, ◌≤◌, List, [], ◌∷◌, ◌++◌, Option, refl, ap, sym, ◌∙◌, append_assoc, length, take, drop, get_or, take-append-drop, take-take, true, arith}
-use Rattle.std.specs.List.{flat_map}
+use Rattle.std.proofs.Common.{◌≡◌, ℕ, ◌+◌, ◌<◌, List, ◌∷◌, ◌++◌, Option, ap, sym, ◌∙◌, length, take, drop, get_or, take-append-drop, true}
 use Rattle.std.specs.Prelude.{Result, Ok, Err, OnErr}
 use Rattle.std.specs.Result.{is_err}
 use Rattle.std.proofs.lemmas.List.{drop_more, take-append-le}
 use Rattle.std.proofs.Math.Seq.{take-append-add}
 use Rattle.std.specs.Io.KnownBytes.{append_known}
 use Rattle.mr_io.specs.Pieces.{WrotePrefix}
-use Rattle.mr_io.proofs.Told.{append_known-append}
 use Rattle.scenario.specs.EntryText.{entry_text}
 use Rattle.scenario.specs.declared.entries.JournalEntry.{JournalEntry}
 use Rattle.scenario.specs.declared.lines.Mode.TheVariants as mode
@@ -37,7 +35,3 @@ some_text names entries i e text start mid written h is shows w p =
     ap (take (length shown + p.0)) (split_texts names entries i e h is) ∙ (take-append-add shown (entry_text names mode.Answers e ++ texts names (drop (i + 1) entries)) p.0
     ∙ ap (λ (l : List ℕ). shown ++ l) (ap (λ (l : List ℕ). take p.0 (l ++ texts names (drop (i + 1) entries))) (sym shows) ∙ take-append-le p.0 text (texts names (drop (i + 1) entries)) p.1)) in
     (length shown + p.0, wrote-more start mid written shown (take p.0 text) w p.2 ∙ ap (append_known start) (sym front))
-
--- the first bytes of a piece that stands at the front of a buffer
-pub take_front : (n m : ℕ) (xs ys : List ℕ) → n ≤ length xs → length xs ≤ m → take n (take m (xs ++ ys)) ≡ take n xs
-take_front n m xs ys h k = take-take n m (xs ++ ys) (omega (arith, h, k)) ∙ take-append-le n xs ys h

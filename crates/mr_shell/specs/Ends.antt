@@ -1,4 +1,4 @@
-use Rattle.std.specs.Prelude.{◌≡◌, ◌≢◌, ⊤, ℕ, ◌<◌, ◌⊎◌}
+use Rattle.std.specs.Prelude.{◌≡◌, ⊤, ℕ, ◌<◌, ◌⊎◌}
 use Rattle.mr_shell.specs.declared.outcome.End.{End}
 use Rattle.mr_shell.specs.declared.outcome.End.TheVariants as ends
 

@@ -1,4 +1,4 @@
-use Rattle.std.specs.Prelude.{◌≡◌, ◌⊎◌, ⊤, ℕ, ◌+◌, List, [], ◌∷◌, ◌++◌, Option, length, take, ◌≤◌, Some, None}
+use Rattle.std.specs.Prelude.{◌≡◌, ◌≢◌, ◌⊎◌, ℕ, ◌+◌, List, [], ◌∷◌, ◌++◌, Option, length, take, ◌≤◌, Some, None}
 use Rattle.scenario.specs.declared.entries.JournalEntry.{JournalEntry}
 use Rattle.sim_cluster.specs.Cluster.{IsRunOf}
 use Rattle.sim_cluster.specs.View.{View}
@@ -20,12 +20,17 @@ pub record AreRun (lines : List (List ℕ)) (story : Story) (journal : List Jour
 abbrev pub report_of : Story → List JournalEntry → List ℕ
 report_of story journal = journal_text story.seen.names journal
 
+-- No more bytes than the largest scenario has.
+abbrev pub IsWithinLimit : (taken : List ℕ) → Type 0
+IsWithinLimit taken = length taken ≤ 16777216
+
 -- Why a run ends after these lines, given the bytes taken of the source and those that are left.
 abbrev pub EndsAfter : End → (taken : List ℕ) → (left : Option (List ℕ)) → List (List ℕ) → Story → Type 0
-EndsAfter ends.Whole taken left lines story = AreAllLines taken left lines
+EndsAfter ends.Whole taken left lines story = AreAllLines taken left lines × IsWithinLimit taken
 EndsAfter (ends.Fault fault number) taken left lines story =
     (line : List ℕ) × AreFirstLines taken left (line ∷ lines) × HasFault story line fault × (number ≡ length lines + 1)
-EndsAfter ends.Read taken left lines story = (rest : List ℕ) × IsCut taken lines rest
+    × IsWithinLimit taken
+EndsAfter ends.Read taken left lines story = (rest : List ℕ) × IsCut taken lines rest × IsWithinLimit taken
 EndsAfter ends.Size taken left lines story =
     (first rest : List ℕ) × (beyond : ℕ) × (taken ≡ first ++ beyond ∷ []) × (length first ≡ 16777216) × IsCut first lines rest
 EndsAfter _ taken left lines story = ⊥
@@ -67,13 +72,15 @@ ShowsAll lines start journal written = (story : Story) × AreRun lines story jou
 -- Memory ran out, while a line was run or between two lines.
 abbrev pub EndsShort : (taken : List ℕ) → (left start : Option (List ℕ)) → List JournalEntry → (written : Option (List ℕ)) → Type 0
 EndsShort taken left start journal written =
-    ((lines : List (List ℕ)) × AreFirstLines taken left lines × ShowsAll lines start journal written)
-    ⊎ ((line : List ℕ) × (lines : List (List ℕ)) × AreFirstLines taken left (line ∷ lines) × ShowsEntries line lines start journal written)
+    IsWithinLimit taken
+    × (((lines : List (List ℕ)) × AreFirstLines taken left lines × ShowsAll lines start journal written)
+    ⊎ ((line : List ℕ) × (lines : List (List ℕ)) × AreFirstLines taken left (line ∷ lines) × ShowsEntries line lines start journal written))
 
 -- A write failed, of a line's entries.
 abbrev pub EndsUnwritten : (taken : List ℕ) → (left start : Option (List ℕ)) → List JournalEntry → (written : Option (List ℕ)) → Type 0
 EndsUnwritten taken left start journal written =
-    (line : List ℕ) × (lines : List (List ℕ)) × AreFirstLines taken left (line ∷ lines) × ShowsPart line lines start journal written
+    IsWithinLimit taken
+    × (line : List ℕ) × (lines : List (List ℕ)) × AreFirstLines taken left (line ∷ lines) × ShowsPart line lines start journal written
 
 -- A write failed, of the line that says why the run ends.
 abbrev pub EndsUnsaid : (taken : List ℕ) → (left start : Option (List ℕ)) → List JournalEntry → (written : Option (List ℕ)) → Type 0
@@ -94,4 +101,18 @@ AfterTaking old new P = (taken : List ℕ) × (old ≡ prepend_known taken new) 
 abbrev pub IsFaultless : (known : Option (List ℕ)) → Type 0
 IsFaultless None = ⊥
 IsFaultless (Some bytes) =
-    (length bytes ≤ 16777216) × (lines : List (List ℕ)) × AreAllLines bytes (Some []) lines × (story : Story) × Tells lines story
+    IsWithinLimit bytes × (lines : List (List ℕ)) × AreAllLines bytes (Some []) lines × (story : Story) × Tells lines story
+
+-- A source holds a scenario that isn't too large, and a line of it is the first with a fault.
+abbrev pub IsFaulty : (known : Option (List ℕ)) → Type 0
+IsFaulty None = ⊥
+IsFaulty (Some bytes) =
+    IsWithinLimit bytes × (line : List ℕ) × (lines : List (List ℕ)) × AreFirstLines bytes (Some []) (line ∷ lines)
+    × (story : Story) × Tells lines story × (fault : ℕ) × HasFault story line fault
+
+-- A source holds a scenario that is too large, and no line that ends within the limit has a fault.
+abbrev pub IsTooLarge : (known : Option (List ℕ)) → Type 0
+IsTooLarge None = ⊥
+IsTooLarge (Some bytes) =
+    (first beyond rest : List ℕ) × (bytes ≡ first ++ beyond) × (length first ≡ 16777216) × (beyond ≢ [])
+    × (lines : List (List ℕ)) × IsCut first lines rest × (story : Story) × Tells lines story

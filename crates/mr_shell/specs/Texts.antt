@@ -43,10 +43,15 @@ IsTold (ends.Fault fault line) = ⊤
 IsTold ends.Size = ⊤
 IsTold _ = ⊥
 
+-- The last line has to be made.
+abbrev pub IsMade : End → Type 0
+IsMade (ends.Fault fault line) = ⊤
+IsMade _ = ⊥
+
 -- Saying why a run ends: the run ends so where its last line was written, for want of memory where the
 -- line couldn't be made, and for a failed write where it wasn't written whole.
 abbrev pub Says : (end result : End) → (start written : Option (List ℕ)) → Type 0
 Says end result start written =
     ((result ≡ end) × Wrote start written (last_line end))
-    ⊎ (((result ≡ ends.Memory) × IsTold end × (written ≡ start))
+    ⊎ (((result ≡ ends.Memory) × IsMade end × (written ≡ start))
     ⊎ ((result ≡ ends.Write) × IsTold end × (count : ℕ) × Wrote start written (take count (last_line end))))

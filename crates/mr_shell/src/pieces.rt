@@ -5,7 +5,7 @@ ghost use Rattle.std.specs.Io.KnownBytes.{IsAtEnd, prepend_known};
 ghost use Rattle.mr_io.specs.Faults.{CountsFault};
 ghost use Rattle.mr_shell.specs.Content.{IsContent};
 ghost use Rattle.mr_shell.specs.Ends.{EndsLines, EndsPieces};
-ghost use Rattle.mr_shell.specs.Run.{AfterTaking};
+ghost use Rattle.mr_shell.specs.Run.{AfterTaking, IsWithinLimit};
 ghost use Rattle.mr_shell.specs.Session.{IsReady, HasRun, HasTaken, Stops, StopsWithin};
 
 use crate::outcome::End;
@@ -165,8 +165,8 @@ fn run_byte<K: Sink>(
 /// of which a carriage return at its end is a part, since no line feed follows.
 fn run_last<K: Sink>(session: &mut Session, pending: &[u8], sink: &mut K) -> Result<(), End>
     requires { IsReady session.old.settings session.old.scenario session.old.cluster.journal }
-    ensures whole { OnOk result ((taken : List ℕ) (left start : Option (List ℕ)) → HasTaken taken start session.old pending.now (K.written sink.old) → IsAtEnd left → Stops End.Whole taken left start session.new.cluster.journal (K.written sink.new)) }
-    ensures stops { IfErr result (λ e. (taken : List ℕ) (left start : Option (List ℕ)) → HasTaken taken start session.old pending.now (K.written sink.old) → IsAtEnd left → Stops e taken left start session.new.cluster.journal (K.written sink.new)) }
+    ensures whole { OnOk result ((taken : List ℕ) (left start : Option (List ℕ)) → HasTaken taken start session.old pending.now (K.written sink.old) → IsAtEnd left → IsWithinLimit taken → Stops End.Whole taken left start session.new.cluster.journal (K.written sink.new)) }
+    ensures stops { IfErr result (λ e. (taken : List ℕ) (left start : Option (List ℕ)) → HasTaken taken start session.old pending.now (K.written sink.old) → IsAtEnd left → IsWithinLimit taken → Stops e taken left start session.new.cluster.journal (K.written sink.new)) }
     ensures ends { IfErr result EndsLines }
     ensures failed { result ≡ Err End.Write → CountsFault (K.faults sink.old) (K.faults sink.new) K.most_faults }
     ensures never_falls { K.faults sink.old ≤ K.faults sink.new }

@@ -3,7 +3,7 @@
 ghost use Rattle.std.specs.Prelude.{◌≡◌, ◌↔◌, ◌≤◌, ◌⊎◌, ℕ, [], take};
 ghost use Rattle.mr_io.specs.Faults.{CountsFault};
 ghost use Rattle.mr_shell.specs.Ends.{IsStatus, EndsPieces, status_of};
-ghost use Rattle.mr_shell.specs.Run.{AfterTaking, EndsWith, EndsShort, HasEnded, IsFaultless};
+ghost use Rattle.mr_shell.specs.Run.{AfterTaking, EndsWith, EndsShort, HasEnded, IsFaultless, IsFaulty, IsTooLarge};
 ghost use Rattle.mr_shell.specs.Texts.{IsTold, Says, Wrote, last_line, usage_line};
 ghost use Rattle.mr_shell.specs.Words.{IsRun};
 ghost use Rattle.mr_shell.specs.declared.outcome.End.{End};
@@ -50,8 +50,11 @@ pub fn top<S: Source, K: Sink>(
     ensures short { result.status ≡ 5 → AfterTaking (S.left source.old) (S.left source.new) (λ taken. EndsShort taken (S.left source.new) (K.written sink.old) result.journal (K.written sink.new)) }
     // One byte more than the largest scenario was taken, and the lines before it were run.
     ensures too_large { result.status ≡ 7 → AfterTaking (S.left source.old) (S.left source.new) (λ taken. EndsWith End.Size taken (S.left source.new) (K.written sink.old) result.journal (K.written sink.new)) }
-    // A scenario without a fault that isn't too large is run whole, where memory is found and no call fails.
-    ensures complete { IsRun words.now → IsFaultless (S.left source.old) → ¬ CountsFault (S.faults source.old) (S.faults source.new) S.most_faults → ¬ CountsFault (K.faults sink.old) (K.faults sink.new) K.most_faults → (result.status ≡ 0) ⊎ (result.status ≡ 5) }
+    // Where memory is found and no call fails, a scenario is run whole exactly where no line has a fault, ends with
+    // a line's fault exactly where one has it, and is too large exactly where one byte more follows lines without.
+    ensures runs_whole { IsRun words.now → IsFaultless (S.left source.old) → ¬ CountsFault (S.faults source.old) (S.faults source.new) S.most_faults → ¬ CountsFault (K.faults sink.old) (K.faults sink.new) K.most_faults → (result.status ≡ 0) ⊎ (result.status ≡ 5) }
+    ensures finds_fault { IsRun words.now → IsFaulty (S.left source.old) → ¬ CountsFault (S.faults source.old) (S.faults source.new) S.most_faults → ¬ CountsFault (K.faults sink.old) (K.faults sink.new) K.most_faults → (result.status ≡ 1) ⊎ (result.status ≡ 5) }
+    ensures finds_size { IsRun words.now → IsTooLarge (S.left source.old) → ¬ CountsFault (S.faults source.old) (S.faults source.new) S.most_faults → ¬ CountsFault (K.faults sink.old) (K.faults sink.new) K.most_faults → (result.status ≡ 7) ⊎ (result.status ≡ 5) }
     // A read that failed was counted, and so was a write.
     ensures read_failed { result.status ≡ 3 → CountsFault (S.faults source.old) (S.faults source.new) S.most_faults }
     ensures write_failed { result.status ≡ 4 → CountsFault (K.faults sink.old) (K.faults sink.new) K.most_faults }

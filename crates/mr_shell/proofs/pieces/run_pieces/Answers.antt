@@ -1,7 +1,7 @@
-use Rattle.std.proofs.Common.{◌≡◌, ◌+◌, ◌<◌, ◌≤◌, ◌++◌, ℕ, List, Option, ap, sym, ◌∙◌, arith, subst, take, length, length-append, length-take-le}
+use Rattle.std.proofs.Common.{◌≡◌, ◌+◌, ◌<◌, ◌≤◌, ◌++◌, ℕ, List, ap, sym, ◌∙◌, arith, subst, take, length, length-append, length-take-le}
 use Rattle.std.proofs.lemmas.Result.{IfErr-weaker, err_from_is_err_and}
 use Rattle.std.specs.Io.KnownBytes.{IsAtEnd, prepend_known}
-use Rattle.mr_shell.specs.Session.{HasTaken, StopsWithin}
+use Rattle.mr_shell.specs.Session.{HasTaken}
 use Rattle.mr_shell.proofs.StopLemmas.{stops_size, stops_within, told_more, told_none}
 use Rattle.mr_shell.proofs.pieces.run_pieces.Goals as goal
 
@@ -16,7 +16,8 @@ returns-then-count-eq0-clause-stops g c =
       so.1 ∙ ap (prepend_known so.0) same,
       stops so.0 (g.S.Source.left c.read_piece.new.source) (g.K.Sink.written c.args.sink.now)
           (subst (λ (l : List ℕ). HasTaken so.0 (g.K.Sink.written c.args.sink.now) c.pieces.session l (g.K.Sink.written c.pieces.sink)) (sym c.as_slice.ensures.value) so.3)
-          (subst IsAtEnd same (c.in_ok-count.ensures.end c.if-count-eq0.true)),
+          (subst IsAtEnd same (c.in_ok-count.ensures.end c.if-count-eq0.true))
+          (omega (arith, so.2, c.pieces.invariant.bounded)),
     ))
     c.run_last.ensures.stops
 
@@ -34,11 +35,15 @@ pub returns-in_err-run_piece-clause-stops : goal.returns-in_err-run_piece-clause
 returns-in_err-run_piece-clause-stops g c =
     let so = c.pieces.invariant.so_far in
     let piece = take c.in_ok-count.count c.read_piece.new.buffer in
+    let below : c.pieces.taken < 16777216 = omega (arith, c.pieces.invariant.bounded, c.if-taken-eq-LARGEST.false) in
+    let fits : c.in_ok-count.count ≤ length c.read_piece.new.buffer = omega (arith, c.read_piece.auto.buffer, c.pieces.auto.buffer, c.requires.room, c.in_ok-count.ensures.within) in
+    let grown : length (so.0 ++ piece) ≡ c.pieces.taken + c.in_ok-count.count = length-append so.0 piece ∙ omega (arith, so.2, length-take-le c.in_ok-count.count c.read_piece.new.buffer fits) in
+    let within : length (so.0 ++ piece) ≤ 16777216 = omega (arith, grown, c.in_ok-count.ensures.bounded below) in
     let p = err_from_is_err_and c.from_residual-in_err-run_piece.result c.from_residual-in_err-run_piece.ensures.1 in
     rw (p.1, p.2) (
       so.0 ++ piece,
       told_more (g.S.Source.left c.args.source.now) (g.S.Source.left c.pieces.source) (g.S.Source.left c.read_piece.new.source) so.0 piece so.1 c.in_ok-count.ensures.told,
-      stops_within c.in_err-run_piece.field-0.0 (so.0 ++ piece) (g.S.Source.left c.read_piece.new.source) (g.K.Sink.written c.args.sink.now) c.run_piece.new.session.cluster.journal (g.K.Sink.written c.run_piece.new.sink)
+      stops_within c.in_err-run_piece.field-0.0 (so.0 ++ piece) (g.S.Source.left c.read_piece.new.source) (g.K.Sink.written c.args.sink.now) c.run_piece.new.session.cluster.journal (g.K.Sink.written c.run_piece.new.sink) within
           (c.in_err-run_piece.ensures.stops so.0 (g.K.Sink.written c.args.sink.now) so.3),
     )
 

@@ -1,15 +1,34 @@
-use Rattle.std.proofs.Common.{◌≡◌, ◌∙◌, ap, sym, subst, ℕ}
-use Rattle.std.specs.Prelude.{◌⊎◌}
+use Rattle.std.proofs.Common.{◌∙◌, ap}
 use Rattle.mr_shell.specs.Ends.{status_of}
-use Rattle.mr_shell.proofs.OneStory.{complete}
+use Rattle.mr_shell.proofs.Exact.{finds_fault, finds_size, runs_whole}
 use Rattle.mr_shell.proofs.top.top.Goals as goal
 
-pub returns-in-Some-Run-clause-complete : goal.returns-in-Some-Run-clause-complete
-returns-in-Some-Run-clause-complete g c =
-    λ is_run faultless reads writes.
+pub returns-in-Some-Run-clause-runs_whole : goal.returns-in-Some-Run-clause-runs_whole
+returns-in-Some-Run-clause-runs_whole g c =
+    λ is_run known reads writes.
     let e = c.run.ensures.ended in
     let t = e.2 in
     rw e.1
-    (complete e.0 (g.S.Source.left c.args.source.now) (g.S.Source.left c.run.new.source) (g.K.Sink.written c.args.sink.now) t.0 c.run.result.journal (g.K.Sink.written c.run.new.sink) t.1 faultless t.2
+    (runs_whole e.0 (g.S.Source.left c.args.source.now) (g.S.Source.left c.run.new.source) (g.K.Sink.written c.args.sink.now) t.0 c.run.result.journal (g.K.Sink.written c.run.new.sink) t.1 known t.2
+    (λ read. reads (c.run.ensures.read_failed (e.1 ∙ ap status_of read)))
+    (λ write. writes (c.run.ensures.write_failed (e.1 ∙ ap status_of write))))
+
+pub returns-in-Some-Run-clause-finds_fault : goal.returns-in-Some-Run-clause-finds_fault
+returns-in-Some-Run-clause-finds_fault g c =
+    λ is_run known reads writes.
+    let e = c.run.ensures.ended in
+    let t = e.2 in
+    rw e.1
+    (finds_fault e.0 (g.S.Source.left c.args.source.now) (g.S.Source.left c.run.new.source) (g.K.Sink.written c.args.sink.now) t.0 c.run.result.journal (g.K.Sink.written c.run.new.sink) t.1 known t.2
+    (λ read. reads (c.run.ensures.read_failed (e.1 ∙ ap status_of read)))
+    (λ write. writes (c.run.ensures.write_failed (e.1 ∙ ap status_of write))))
+
+pub returns-in-Some-Run-clause-finds_size : goal.returns-in-Some-Run-clause-finds_size
+returns-in-Some-Run-clause-finds_size g c =
+    λ is_run known reads writes.
+    let e = c.run.ensures.ended in
+    let t = e.2 in
+    rw e.1
+    (finds_size e.0 (g.S.Source.left c.args.source.now) (g.S.Source.left c.run.new.source) (g.K.Sink.written c.args.sink.now) t.0 c.run.result.journal (g.K.Sink.written c.run.new.sink) t.1 known t.2
     (λ read. reads (c.run.ensures.read_failed (e.1 ∙ ap status_of read)))
     (λ write. writes (c.run.ensures.write_failed (e.1 ∙ ap status_of write))))
