@@ -1,4 +1,5 @@
 pub mod AfterLemmas
+pub mod FormHeads
 pub mod MoreNames
 pub mod NameLookups
 pub mod Names
@@ -6,5 +7,6 @@ pub mod NamesOnly
 pub mod NodeLemmas
 pub mod NoLine
 pub mod PlaceLemmas
+pub mod SoundLines
 pub mod Tells
 pub mod WordLemmas

@@ -27,13 +27,19 @@ both : (a b : Bool) → (a && b) ≡ true → (a ≡ true) × (b ≡ true)
 both true b h = (refl, h)
 both false b h = (h, cc)
 
+pub exact_message : (x y : MsgId) → is_message x y ≡ true → x ≡ y
+exact_message x y e = ap (λ (n : ℕ). let id : MsgId = record { 0 = n } in id) (eqb-true x.0 y.0 e)
+
+pub exact_range : (x y : RangeId) → is_range x y ≡ true → x ≡ y
+exact_range x y e = ap (λ (n : ℕ). let id : RangeId = record { 0 = n } in id) (eqb-true x.0 y.0 e)
+
 pub message_told : (b : Bool) (flight : List MsgId) (m : MsgId) → (IsTrue b ↔ Contains flight m) → b ≡ list_any (is_message m) flight
-message_told b flight m h = told is_message (λ x y e. ap (λ (n : ℕ). let id : MsgId = record { 0 = n } in id) (eqb-true x.0 y.0 e)) (λ x y e. eq-eqb x.0 y.0 (ap (λ (i : MsgId). i.0) e)) b flight m h
+message_told b flight m h = told is_message exact_message (λ x y e. eq-eqb x.0 y.0 (ap (λ (i : MsgId). i.0) e)) b flight m h
 
 pub range_told : (b : Bool) (live : List RangeId) (r : RangeId) → (IsTrue b ↔ Contains live r) → b ≡ list_any (is_range r) live
-range_told b live r h = told is_range (λ x y e. ap (λ (n : ℕ). let id : RangeId = record { 0 = n } in id) (eqb-true x.0 y.0 e)) (λ x y e. eq-eqb x.0 y.0 (ap (λ (i : RangeId). i.0) e)) b live r h
+range_told b live r h = told is_range exact_range (λ x y e. eq-eqb x.0 y.0 (ap (λ (i : RangeId). i.0) e)) b live r h
 
-exact_replica : (x y : NodeId × RangeId) → is_replica x y ≡ true → x ≡ y
+pub exact_replica : (x y : NodeId × RangeId) → is_replica x y ≡ true → x ≡ y
 exact_replica x y e =
     let parts = both (x.0.0 == y.0.0) (x.1.0 == y.1.0) e in
     let n : x.0.0 ≡ y.0.0 = eqb-true x.0.0 y.0.0 parts.0 in
@@ -48,7 +54,7 @@ pub replica_told : (b : Bool) (replicas : List (NodeId × RangeId)) (n : NodeId)
 replica_told b replicas n r h = told is_replica exact_replica same_replica b replicas (n, r) h
 
 -- a transaction that passes the test waits for something
-found : (awaited : List (TxnId × MsgId)) (t : TxnId) → list_any (waits t.0) awaited ≡ true → (m : MsgId) × Contains awaited (t, m)
+pub found : (awaited : List (TxnId × MsgId)) (t : TxnId) → list_any (waits t.0) awaited ≡ true → (m : MsgId) × Contains awaited (t, m)
 found [] t h = absurd cc
 found (p ∷ ps) t h =
     elim (waits t.0 p) as (λ b. waits t.0 p ≡ b → (m : MsgId) × Contains (p ∷ ps) (t, m)) [

@@ -11,6 +11,7 @@ pub mod MessageText
 pub mod NamePlaces
 pub mod Names
 pub mod SeenNodes
+pub mod Sound
 pub mod StateText
 pub mod StepText
 pub mod Text

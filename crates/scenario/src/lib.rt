@@ -33,7 +33,7 @@ pub use events::Event;
 pub use first_path::{Expected, FirstPath, standard_settings};
 pub use journal::Journal;
 pub use lines::{Line, LineFault, Mode};
-pub use reader::Scenario;
+pub use reader::{Scenario, lines_are_sound};
 pub use text::{text_of, texts_stay};
 pub use world::{NoWorld, World};
 

@@ -3,6 +3,7 @@
 ghost use Rattle.std.specs.Prelude.{◌≡◌, ◌↔◌, ◌≤◌, ◌<◌, [], ℕ, List, Ok, Err, false, length, IfOk, IfErr, OnErr, IfSome, IfNone, IsTrue, Contains};
 ghost use Rattle.scenario.specs.Judgements.{is_out_of_range, repeats_a_name};
 ghost use Rattle.scenario.specs.Lines.{fault_of, IsRead, is_skipped, nothing_seen, reads, said, told_by};
+ghost use Rattle.scenario.specs.Sound.{LinesAreSound};
 ghost use Rattle.scenario.specs.Text.{name_of};
 ghost use Rattle.scenario.specs.Words.{Gives};
 
@@ -102,6 +103,13 @@ fn fault_of<W: World>(seen: &Seen, w: &W, form: &Form) -> Option<u8>
     }
     None
 }
+
+/// What holds of a line that is read, and what is seen then. An event names nodes that are there, and that
+/// run or are stopped as it needs them, ranges that are live, messages in flight, transactions that wait;
+/// durations, clocks and numbers of nodes are within their limits.
+pub fn lines_are_sound()
+    ensures { LinesAreSound }
+{}
 
 impl Scenario {
     /// A scenario of which nothing was read yet. With `zones_only` it is read for its ranges alone, and

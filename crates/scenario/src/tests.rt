@@ -1,7 +1,10 @@
 //! Each kind of entry with its text, and each public call with ample memory.
 
 mod answers;
+mod forms;
+mod limits;
 mod messages;
+mod reader;
 mod states;
 mod steps;
 
