@@ -1,11 +1,12 @@
 mod Additions
 mod Creations
 mod Edits
-mod Found
+pub mod Found
 mod Index
 mod Kept
 mod Limits
 mod Lookups
 mod Regions
+mod Samples
 mod SoundTables
 mod Steps

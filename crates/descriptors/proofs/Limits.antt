@@ -88,7 +88,7 @@ homed_names : (n : List ℕ) (ts : List Table) → map full_name (map (homed_in_
 homed_names n [] = refl
 homed_names n (t ∷ ts) =
     let same : full_name (homed_in_primary n t) ≡ full_name t =
-        elim (bytes_eq n t.database) as (λ b. full_name (cond b (with_locality InPrimary t) t) ≡ full_name t) [ true ↦ refl | false ↦ refl ] in
+    elim (bytes_eq n t.database) as (λ b. full_name (cond b (with_locality InPrimary t) t) ≡ full_name t) [ true ↦ refl | false ↦ refl ] in
     ap (λ k. k ∷ map full_name (map (homed_in_primary n) ts)) same ∙ ap (λ l. full_name t ∷ l) (homed_names n ts)
 
 pub limits_homed : (c : Contents) (n r : List ℕ) → IsWithinLimits c → IsWithinLimits (record c { databases = changed (is_database n) (with_first_region r) c.databases; tables = map (homed_in_primary n) c.tables })

@@ -1,6 +1,6 @@
 //! Statements with the code that each must get, one after the other.
 
-ghost use Rattle.std.specs.Prelude.{◌≡◌, ◌∷◌, [], All, IfOk, IsUtf8};
+ghost use Rattle.std.specs.Prelude.{◌≡◌, ◌∷◌, [], All, IfOk, IsUtf8, OnOk};
 ghost use Rattle.descriptors.specs.Columns.{columns_of};
 ghost use Rattle.descriptors.specs.Changes.{NewNamesAreUtf8};
 
@@ -35,6 +35,10 @@ enum Kind {
     TwoKeys,
     /// The same without a key
     NoKey,
+    /// CREATE TABLE with 16 columns, the first of them the key
+    Sixteen,
+    /// The same with 17
+    Seventeen,
     Locality,
 }
 
@@ -142,6 +146,54 @@ fn create_table(
     })
 }
 
+/// Names of columns.
+static WORDS: [&str; 17] = [
+    "a", "b", "c", "d", "e", "f", "g", "h", "i", "j", "k", "l", "m", "n", "o", "p", "q",
+];
+
+/// An INT column for each of these names, the first of them the key.
+fn wide_items(alloc: Global, names: &[&str]) -> Result<ListOf<Item>, Memory>
+    ensures { IfOk result (λ items. All (λ c. IsUtf8 c.0) (columns_of items)) }
+{
+    let mut items = ListOf::new(alloc);
+    for name in names {
+        let key = if items.is_empty() {
+            ColumnKey::Primary
+        } else {
+            ColumnKey::Plain
+        };
+        let name = bytes(alloc, name)?;
+        add_column(&mut items, name, key)?;
+    }
+    Ok(items)
+}
+
+fn add_column(items: &mut ListOf<Item>, name: Bytes, key: ColumnKey) -> Result<(), Memory>
+    requires name { IsUtf8 name }
+    requires before { All (λ c. IsUtf8 c.0) (columns_of items.old) }
+    ensures { OnOk result (All (λ c. IsUtf8 c.0) (columns_of items.new)) }
+{
+    items.push(Item::Column {
+        name,
+        ty: ColumnType::Int,
+        not_null: false,
+        key,
+    })?;
+    Ok(())
+}
+
+fn wide_table(alloc: Global, name: &str, columns: &[&str]) -> Result<RegionStatement, Memory>
+    ensures { IfOk result NewNamesAreUtf8 }
+{
+    let items = wide_items(alloc, columns)?;
+    let name = bytes(alloc, name)?;
+    Ok(RegionStatement::CreateTable {
+        name,
+        items,
+        locality: None,
+    })
+}
+
 fn statement(
     alloc: Global,
     kind: Kind,
@@ -179,6 +231,8 @@ fn statement(
         Kind::Table => create_table(alloc, words, ColumnKey::Primary, ColumnKey::Unique),
         Kind::TwoKeys => create_table(alloc, words, ColumnKey::Primary, ColumnKey::Primary),
         Kind::NoKey => create_table(alloc, words, ColumnKey::Plain, ColumnKey::Unique),
+        Kind::Sixteen => wide_table(alloc, words.0, &WORDS[..16]),
+        Kind::Seventeen => wide_table(alloc, words.0, &WORDS),
         Kind::Locality => {
             let locality = match locality(alloc, words.1)? {
                 Some(locality) => locality,
@@ -221,7 +275,7 @@ type Line = (
     &'static str,
 );
 
-static LINES: [Line; 80] = [
+static LINES: [Line; 82] = [
     // before any database
     (Kind::Table, ("t", "", "id"), "3D000"),
     (Kind::Use, ("x", "", ""), "3D000"),
@@ -270,6 +324,8 @@ static LINES: [Line; 80] = [
     (Kind::Table, ("v", "", "crdb_region"), "D8"),
     (Kind::TwoKeys, ("v", "", "s"), "D8"),
     (Kind::NoKey, ("v", "", "s"), "D8"),
+    (Kind::Seventeen, ("v", "", ""), "D8"),
+    (Kind::Sixteen, ("v", "", ""), ""),
     (Kind::Locality, ("t", "asia", ""), ""),
     // restricted, then surviving the loss of a region
     (Kind::Use, ("d", "", ""), ""),
@@ -318,8 +374,12 @@ fn answer(alloc: Global, catalog: &mut Catalog, line: Line) -> Result<&'static s
 }
 
 /// The first line that gets another code, if there is one.
-fn first_wrong(alloc: Global, catalog: &mut Catalog) -> Result<Option<usize>, Memory> {
-    for (i, line) in LINES.iter().enumerate() {
+fn first_wrong(
+    alloc: Global,
+    catalog: &mut Catalog,
+    lines: &[Line],
+) -> Result<Option<usize>, Memory> {
+    for (i, line) in lines.iter().enumerate() {
         if answer(alloc, catalog, *line)? != line.2 {
             return Ok(Some(i));
         }
@@ -352,13 +412,50 @@ fn four_regions(alloc: Global) -> Result<Catalog, Memory> {
     Catalog::new(alloc, regions.as_slice())
 }
 
+/// Databases that have no table yet.
+static EMPTY: [&str; 12] = [
+    "f0", "f1", "f2", "f3", "f4", "f5", "f6", "f7", "f8", "f9", "f10", "f11",
+];
+
+/// Tables in these databases, until one is refused: how many were made, and the code of that one.
+fn fill(alloc: Global, catalog: &mut Catalog) -> Result<(usize, &'static str), Memory> {
+    let mut made = 0usize;
+    for database in &EMPTY {
+        answer(alloc, catalog, (Kind::Use, (*database, "", ""), ""))?;
+        for name in &WORDS {
+            let code = answer(alloc, catalog, (Kind::Table, (*name, "", "s"), ""))?;
+            if !code.is_empty() {
+                return Ok((made, code));
+            }
+            made = made.saturating_add(1);
+        }
+    }
+    Ok((made, ""))
+}
+
+/// Once there are 64 tables: the name goes before the number of tables, and so do regions.
+static FULL: [Line; 6] = [
+    (Kind::Table, ("a", "", "s"), "42P07"),
+    (Kind::Table, ("z", "*", "s"), "D7"),
+    (Kind::Use, ("d", "", ""), ""),
+    (Kind::Table, ("z", "eu-west", "s"), "D3"),
+    (Kind::Table, ("z", "", "s"), "D8"),
+    (Kind::Table, ("p", "", "s"), "42P07"),
+];
+
 #[test]
 fn each_statement_gets_its_code(rt: HostRuntime) -> Result<(), Fail> {
     let alloc = rt.alloc();
     let mut catalog = four_regions(alloc)?;
-    assert!(rt; first_wrong(alloc, &mut catalog)?.is_none());
+    assert!(rt; first_wrong(alloc, &mut catalog, &LINES)?.is_none());
     let copy = catalog.clone_in(alloc)?;
     assert!(rt; copy.table(b"q").is_none() && copy.database(b"d").is_some());
-    assert!(rt; copy.tables().len() == 3);
+    assert!(rt; copy.tables().len() == 4);
+    assert!(rt; fill(alloc, &mut catalog)? == (60, "D8"));
+    assert!(rt; catalog.tables().len() == 64);
+    assert!(rt; first_wrong(alloc, &mut catalog, &FULL)?.is_none());
+    let one_more = statement(alloc, Kind::Table, ("z", "", "s"))?;
+    assert!(rt; catalog.refusal(&one_more)? == Some(CatalogRefusal::D(8)));
+    assert!(rt; copy.refusal(&one_more)?.is_none());
     Ok(())
 }

@@ -1,0 +1,6 @@
+mod Homes
+mod Lines
+mod Names
+mod Nodes
+mod Placeable
+mod Tokens

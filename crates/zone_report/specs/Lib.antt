@@ -1,0 +1,5 @@
+pub mod Nodes
+pub mod Ranges
+pub mod Refusals
+pub mod Report
+pub mod Statements
