@@ -1,5 +1,5 @@
-use Rattle.std.proofs.Common.{◌≡◌, ◌≢◌, ℕ, ℤ, pos, negsuc, Bool, true, false, cond, List, [], ◌∷◌, inl, inr, ⊎_elim, refl, sym, ap, ◌∙◌, subst, true≢false, w64, SFits}
-use Rattle.std.specs.Prelude.{◌⊎◌, ◌↔◌, Option, Some, None, map, Result, Ok, Err}
+use Rattle.std.proofs.Common.{◌≡◌, ℕ, ℤ, pos, negsuc, Bool, true, false, cond, List, [], ◌∷◌, inl, inr, ⊎_elim, refl, sym, ap, ◌∙◌, subst, true≢false, w64, SFits}
+use Rattle.std.specs.Prelude.{◌⊎◌, Option, Some, map, Result, Ok, Err}
 use Rattle.mr_base.specs.declared.ids.AttemptId.{AttemptId}
 use Rattle.mr_base.specs.declared.spans.Pair.{Pair}
 use Rattle.mr_base.specs.declared.states.SqlState.{SqlState}
@@ -50,17 +50,17 @@ insert_commits : (a : AttemptId) (journal : List JournalEntry) (n : ℤ) (ms : L
 insert_commits a journal n ms int rising ints missing puts =
     record {
       new_held = λ key u p h.
-        let f : (key ≡ int_key n) × (u ≡ Some (int_value n)) = is_change ms n missing key u ((puts key u).1 (p, h)) in
-        (int_value n, f.1, subst (λ (k : List ℕ). Holds (with_id n (map row_with ms)) k (int_value n)) (sym f.0) (new_held ms n));
+          let f : (key ≡ int_key n) × (u ≡ Some (int_value n)) = is_change ms n missing key u ((puts key u).1 (p, h)) in
+          (int_value n, f.1, subst (λ (k : List ℕ). Holds (with_id n (map row_with ms)) k (int_value n)) (sym f.0) (new_held ms n));
       held_new = λ key v h. ⊎_elim
           (λ (e : int_pair n ≡ pair key v). inl ((puts key (Some v)).0
-            (subst (λ (q : Pair). IsChange (map row_with ms) (with_id n (map row_with ms)) q.key (Some q.value)) e
-            (changes ms n (λ m i same. missing (subst (λ y. HasId y ms) (same_key m n (int_in ms ints m i) int (ap (λ (p : Pair). p.key) same)) i))))))
+          (subst (λ (q : Pair). IsChange (map row_with ms) (with_id n (map row_with ms)) q.key (Some q.value)) e
+          (changes ms n (λ m i same. missing (subst (λ y. HasId y ms) (same_key m n (int_in ms ints m i) int (ap (λ (p : Pair). p.key) same)) i))))))
           (λ q. inr q) (nothing_else ms n (pair key v) h);
       still = λ key v h. still_held ms n (pair key v) h;
       apart = λ key u p v h held.
-        let f : (key ≡ int_key n) × (u ≡ Some (int_value n)) = is_change ms n missing key u ((puts key u).1 (p, h)) in
-        not_there n ms int ints missing v (subst (λ (k : List ℕ). Holds (map row_with ms) k v) f.0 held);
+          let f : (key ≡ int_key n) × (u ≡ Some (int_value n)) = is_change ms n missing key u ((puts key u).1 (p, h)) in
+          not_there n ms int ints missing v (subst (λ (k : List ℕ). Holds (map row_with ms) k v) f.0 held);
       well = valid_with n ms int missing rising ints;
     }
 
@@ -94,7 +94,7 @@ unchanged_by a journal n ms results int ints true e none gives = gives
 unchanged_by a journal n ms results int ints false e none gives =
     let missing : ¬ HasId n ms = λ h. true≢false (sym (tests_id ms n h) ∙ e) in
     let f : (ts : Ts) × HasPut a (int_key n) (Some (int_value n)) ts (log_of the_range journal) =
-      (gives.1 (int_key n) (Some (int_value n))).0 (changes ms n (λ m i same. missing (subst (λ y. HasId y ms) (same_key m n (int_in ms ints m i) int (ap (λ (p : Pair). p.key) same)) i))) in
+    (gives.1 (int_key n) (Some (int_value n))).0 (changes ms n (λ m i same. missing (subst (λ y. HasId y ms) (same_key m n (int_in ms ints m i) int (ap (λ (p : Pair). p.key) same)) i))) in
     none (int_key n) (Some (int_value n)) f.0 f.1
 
 pub unchanged : (text : List ℕ) (st : FirstStatement) → IsFirstText text st → (results : List StatementResult) (a : AttemptId) (journal : List JournalEntry) (d : Database) → IsValid d

@@ -1,5 +1,5 @@
-use Rattle.std.proofs.Common.{◌≡◌, ◌≢◌, ℕ, ℤ, Bool, true, false, cond, List, [], ◌∷◌, ◌<◌, ◌≤◌, ◌+◌, inl, inr, ⊎_elim, refl, sym, ap, ap₂, ◌∙◌, subst, arith}
-use Rattle.std.specs.Prelude.{◌⊎◌, ◌↔◌, Option, Some, map, Result, Ok, Err}
+use Rattle.std.proofs.Common.{◌≡◌, ℕ, List}
+use Rattle.std.specs.Prelude.{◌⊎◌, ◌↔◌, Option, Some}
 use Rattle.mr_base.specs.Timestamps.{IsBelow}
 use Rattle.mr_base.specs.declared.ids.AttemptId.{AttemptId}
 use Rattle.mr_base.specs.declared.timestamps.Reading.{Reading}
@@ -7,8 +7,8 @@ use Rattle.mr_base.specs.declared.timestamps.Ts.{Ts}
 use Rattle.range_log.specs.Facts.{Laid, HasIntent, HasRecord, HasVersion, Version}
 use Rattle.range_log.specs.declared.entries.Entry.{Entry}
 use Rattle.range_log.specs.declared.entries.TxnState.TheVariants as records
-use Rattle.row_locality.specs.Databases.{Database, IsValid}
-use Rattle.run_laws.proofs.OrderLemmas.{ArePast, IsPast}
+use Rattle.row_locality.specs.Databases.{IsValid}
+use Rattle.run_laws.proofs.OrderLemmas.{ArePast}
 use Rattle.run_laws.specs.Decided.{Decided, IsAmong, AreFalling, those_below, replay}
 use Rattle.run_laws.specs.Words.{HasPut}
 use Rattle.sql_eval.specs.Agreement.{Holds}

@@ -1,25 +1,21 @@
-use Rattle.std.proofs.Common.{◌≡◌, ◌≢◌, ℕ, ℤ, Bool, true, false, cond, List, [], ◌∷◌, ◌<◌, ◌≤◌, ◌+◌, inl, inr, ⊎_elim, refl, sym, ap, ap₂, ◌∙◌, subst, arith, true≢false}
-use Rattle.std.specs.Prelude.{◌⊎◌, ◌↔◌, Option, Some, None, map, Result, Ok, Err}
+use Rattle.std.proofs.Common.{◌≡◌, ◌≢◌, ℕ, List, [], ◌∷◌, inl, inr, ⊎_elim, refl, sym, ap, ◌∙◌, subst}
+use Rattle.std.specs.Prelude.{◌⊎◌, Option, Some}
 use Rattle.mr_base.specs.Timestamps.{IsBelow}
 use Rattle.mr_base.specs.declared.ids.AttemptId.{AttemptId}
-use Rattle.mr_base.specs.declared.spans.Pair.{Pair}
-use Rattle.mr_base.specs.declared.states.SqlState.TheVariants as states
 use Rattle.mr_base.specs.declared.timestamps.Reading.{Reading}
 use Rattle.mr_base.specs.declared.timestamps.Ts.{Ts}
-use Rattle.range_log.specs.Facts.{Laid, HasIntent, HasRecord, HasVersion, Version}
+use Rattle.range_log.specs.Facts.{HasRecord, HasVersion}
 use Rattle.range_log.specs.declared.entries.Entry.{Entry}
 use Rattle.range_log.specs.declared.entries.Entry.TheVariants as log
 use Rattle.range_log.specs.declared.entries.TxnState.{TxnState}
 use Rattle.range_log.specs.declared.entries.TxnState.TheVariants as records
-use Rattle.region_sql.specs.declared.first_forms.FirstStatement.{FirstStatement}
-use Rattle.region_sql.specs.declared.first_forms.FirstStatement.TheVariants.{Insert, SelectAll}
-use Rattle.row_locality.specs.Databases.{Database, IsValid, row_with}
+use Rattle.row_locality.specs.Databases.{Database, IsValid}
 use Rattle.run_laws.proofs.Core.{Core}
-use Rattle.run_laws.proofs.OrderLemmas.{ArePast, IsPast, all_below, below_more, below_or_not, head_below, head_not_below}
-use Rattle.run_laws.specs.Decided.{Decided, IsAmong, AreBelow, AreFalling, after, those_below, replay}
+use Rattle.run_laws.proofs.OrderLemmas.{IsPast, all_below, below_more, below_or_not, head_below, head_not_below}
+use Rattle.run_laws.specs.Decided.{Decided, IsAmong, AreBelow, after, those_below, replay}
 use Rattle.run_laws.specs.Words.{HasPut}
 use Rattle.sql_eval.specs.Agreement.{Holds}
-use Rattle.sql_eval.specs.Execution.{Executed, exec}
+use Rattle.sql_eval.specs.Execution.{exec}
 
 -- the replay once a transaction is decided above all others
 above_it : (d : Decided) (ds : List Decided) → AreBelow d.ts ds → (ts : Ts) → IsBelow d.ts ts → replay (those_below ts (d ∷ ds)) ≡ after (exec d.statement (replay ds)) (replay ds)
@@ -42,7 +38,6 @@ is_below ts (e ∷ es) d h (inl q) = subst (λ (y : Decided). IsBelow y.ts ts) q
 is_below ts (e ∷ es) d h (inr i) = is_below ts es d h.1 i
 
 module _ (l : List Entry) (r : Reading) (W : Decided → Type 0) (core : Core l r W) (d : Decided) (below : AreBelow d.ts core.decided) (past : IsPast r d.ts) where
-
   -- a decision that changes nothing, with no new record
   abbrev pub core_same : after (exec d.statement (replay core.decided)) (replay core.decided) ≡ replay core.decided → Core l r (λ x. (d ≡ x) ⊎ W x)
   core_same same =
@@ -53,11 +48,11 @@ module _ (l : List Entry) (r : Reading) (W : Decided → Type 0) (core : Core l 
         past = (past, core.past);
         valid = λ ts. subst (λ (y : Database). IsValid y) (sym (same_replay d core.decided below same ts)) (core.valid ts);
         recorded = λ a c h.
-          let f : (y : Decided) × IsAmong y core.decided × (y.ts ≡ c) = core.recorded a c h in
-          (f.0, inr f.1, f.2);
+            let f : (y : Decided) × IsAmong y core.decided × (y.ts ≡ c) = core.recorded a c h in
+            (f.0, inr f.1, f.2);
         puts_held = λ ts a c key value p rec put h.
-          let f : (v : List ℕ) × (value ≡ Some v) × Holds (replay (those_below ts core.decided)) key v = core.puts_held ts a c key value p rec put h in
-          (f.0, f.1, subst (λ (y : Database). Holds y key f.0) (sym (same_replay d core.decided below same ts)) f.2);
+            let f : (v : List ℕ) × (value ≡ Some v) × Holds (replay (those_below ts core.decided)) key v = core.puts_held ts a c key value p rec put h in
+            (f.0, f.1, subst (λ (y : Database). Holds y key f.0) (sym (same_replay d core.decided below same ts)) f.2);
         held_puts = λ ts key v h. core.held_puts ts key v (subst (λ (y : Database). Holds y key v) (same_replay d core.decided below same ts) h);
         one_writer = core.one_writer;
         low = core.low;
@@ -68,12 +63,11 @@ module _ (l : List Entry) (r : Reading) (W : Decided → Type 0) (core : Core l 
 
   -- a commit
   module _ (a : AttemptId) (fresh : (state : TxnState) → ¬ HasRecord a state l) (low : (key : List ℕ) (u : Option (List ℕ)) (p : Ts) → HasPut a key u p l → ¬ IsBelow d.ts p)
-    (new_held : (key : List ℕ) (u : Option (List ℕ)) (p : Ts) → HasPut a key u p l → (v : List ℕ) × (u ≡ Some v) × Holds (after (exec d.statement (replay core.decided)) (replay core.decided)) key v)
-    (held_new : (key v : List ℕ) → Holds (after (exec d.statement (replay core.decided)) (replay core.decided)) key v → ((p : Ts) × HasPut a key (Some v) p l) ⊎ Holds (replay core.decided) key v)
-    (still : (key v : List ℕ) → Holds (replay core.decided) key v → Holds (after (exec d.statement (replay core.decided)) (replay core.decided)) key v)
-    (apart : (key : List ℕ) (u : Option (List ℕ)) (p : Ts) (v : List ℕ) → HasPut a key u p l → ¬ Holds (replay core.decided) key v)
-    (well : IsValid (after (exec d.statement (replay core.decided)) (replay core.decided))) where
-
+      (new_held : (key : List ℕ) (u : Option (List ℕ)) (p : Ts) → HasPut a key u p l → (v : List ℕ) × (u ≡ Some v) × Holds (after (exec d.statement (replay core.decided)) (replay core.decided)) key v)
+      (held_new : (key v : List ℕ) → Holds (after (exec d.statement (replay core.decided)) (replay core.decided)) key v → ((p : Ts) × HasPut a key (Some v) p l) ⊎ Holds (replay core.decided) key v)
+      (still : (key v : List ℕ) → Holds (replay core.decided) key v → Holds (after (exec d.statement (replay core.decided)) (replay core.decided)) key v)
+      (apart : (key : List ℕ) (u : Option (List ℕ)) (p : Ts) (v : List ℕ) → HasPut a key u p l → ¬ Holds (replay core.decided) key v)
+      (well : IsValid (after (exec d.statement (replay core.decided)) (replay core.decided))) where
     abbrev the_record : Entry
     the_record = log.State a (records.Committed d.ts)
 
@@ -162,8 +156,8 @@ module _ (l : List Entry) (r : Reading) (W : Decided → Type 0) (core : Core l 
           one_put = core.one_put;
           versions = λ v h. ⊎_elim (λ e. absurd e)
               (λ (q : HasVersion v l × _).
-                let f : (b : AttemptId) × (p : Ts) × HasRecord b (records.Committed v.ts) l × HasPut b v.key v.value p l = core.versions v q.0 in
-                (f.0, f.1, kept f.0 (records.Committed v.ts) f.2, f.3)) h;
+              let f : (b : AttemptId) × (p : Ts) × HasRecord b (records.Committed v.ts) l × HasPut b v.key v.value p l = core.versions v q.0 in
+              (f.0, f.1, kept f.0 (records.Committed v.ts) f.2, f.3)) h;
           stands = λ b key u p put. ⊎_elim (λ x. inl x)
               (λ (x : (c : Ts) × HasRecord b (records.Committed c) l × HasVersion (record { key = key; ts = c; value = u }) l). inr (x.0, kept b (records.Committed x.0) x.1, inr (x.2, λ w m. absurd m)))
               (core.stands b key u p put);

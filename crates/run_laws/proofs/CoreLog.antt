@@ -1,13 +1,12 @@
-use Rattle.std.proofs.Common.{◌≡◌, ◌≢◌, ℕ, ℤ, Bool, true, false, cond, List, [], ◌∷◌, ◌<◌, ◌≤◌, ◌+◌, inl, inr, ⊎_elim, refl, sym, ap, ap₂, ◌∙◌, subst, arith}
-use Rattle.std.specs.Prelude.{◌⊎◌, ◌↔◌, Option, Some, map, Result, Ok, Err}
+use Rattle.std.proofs.Common.{◌≡◌, ◌≢◌, ℕ, List, ◌∷◌, inl, inr, ⊎_elim, refl, sym, ap, ◌∙◌, subst}
+use Rattle.std.specs.Prelude.{◌⊎◌, Option, Some}
 use Rattle.mr_base.specs.Timestamps.{IsBelow}
 use Rattle.mr_base.specs.declared.ids.AttemptId.{AttemptId}
 use Rattle.mr_base.specs.declared.ids.RangeId.{RangeId}
-use Rattle.mr_base.specs.declared.messages.Fate.{Fate}
 use Rattle.mr_base.specs.declared.messages.Fate.TheVariants as fates
 use Rattle.mr_base.specs.declared.timestamps.Reading.{Reading}
 use Rattle.mr_base.specs.declared.timestamps.Ts.{Ts}
-use Rattle.range_log.specs.Facts.{Laid, HasIntent, HasRecord, HasVersion, Version}
+use Rattle.range_log.specs.Facts.{Laid, HasIntent, HasRecord, HasVersion}
 use Rattle.range_log.specs.declared.entries.Entry.{Entry}
 use Rattle.range_log.specs.declared.entries.Entry.TheVariants as log
 use Rattle.range_log.specs.declared.entries.Lease.{Lease}
@@ -38,8 +37,7 @@ core_lease l r W lease core =
     }
 
 module _ (l : List Entry) (r : Reading) (W : Decided → Type 0) (core : Core l r W) (a : AttemptId) (start : Ts) (anchor : RangeId) (ts : Ts) (k : List ℕ) (v : Option (List ℕ))
-  (alone : (i : Laid) → HasIntent k i l → i.attempt ≡ a) (first : (u : Option (List ℕ)) (p : Ts) → ¬ HasPut a k u p l) (undecided : (state : TxnState) → ¬ HasRecord a state l) where
-
+    (alone : (i : Laid) → HasIntent k i l → i.attempt ≡ a) (first : (u : Option (List ℕ)) (p : Ts) → ¬ HasPut a k u p l) (undecided : (state : TxnState) → ¬ HasRecord a state l) where
   abbrev the_put : Entry
   the_put = log.Put a start anchor ts k v
 
@@ -81,21 +79,20 @@ module _ (l : List Entry) (r : Reading) (W : Decided → Type 0) (core : Core l 
         recorded = core.recorded;
         puts_held = λ t b c key value p rec put below. core.puts_held t b c key value p rec (old_put b c key value p rec put) below;
         held_puts = λ t key w h.
-          let f : (b : AttemptId) × (c : Ts) × (p : Ts) × HasRecord b (records.Committed c) l × HasPut b key (Some w) p l × IsBelow c t = core.held_puts t key w h in
-          (f.0, f.1, f.2, f.3, inr f.4, f.5);
+            let f : (b : AttemptId) × (c : Ts) × (p : Ts) × HasRecord b (records.Committed c) l × HasPut b key (Some w) p l × IsBelow c t = core.held_puts t key w h in
+            (f.0, f.1, f.2, f.3, inr f.4, f.5);
         one_writer = λ b d c e key u w p q rb pb rd pd. core.one_writer b d c e key u w p q rb (old_put b c key u p rb pb) rd (old_put d e key w q rd pd);
         low = λ b c key u p rec put. core.low b c key u p rec (old_put b c key u p rec put);
         one_put = one_put;
         versions = λ w h. ⊎_elim (λ e. absurd e)
             (λ (q : HasVersion w l × _).
-              let f : (b : AttemptId) × (p : Ts) × HasRecord b (records.Committed w.ts) l × HasPut b w.key w.value p l = core.versions w q.0 in
-              (f.0, f.1, f.2, inr f.3)) h;
+            let f : (b : AttemptId) × (p : Ts) × HasRecord b (records.Committed w.ts) l × HasPut b w.key w.value p l = core.versions w q.0 in
+            (f.0, f.1, f.2, inr f.3)) h;
         stands = stands;
       }
 
 module _ (l : List Entry) (r : Reading) (W : Decided → Type 0) (core : Core l r W) (a : AttemptId) (k : List ℕ) (ts : Ts) (decided : HasRecord a (records.Committed ts) l)
-  (intent : Laid) (there : HasIntent k intent l) (own : intent.attempt ≡ a) where
-
+    (intent : Laid) (there : HasIntent k intent l) (own : intent.attempt ≡ a) where
   abbrev the_resolve : Entry
   the_resolve = log.Resolve a k (fates.Committed ts)
 
@@ -120,8 +117,11 @@ module _ (l : List Entry) (r : Reading) (W : Decided → Type 0) (core : Core l 
   stands_by b key u p put (inr n) (inl (i, int, x, y, z)) = inl (i, (int, λ e q. n e), x, y, z)
   stands_by b key u p put (inl e) (inl (i, int, x, y, z)) =
       let one : intent ≡ i = one_intent l k intent i there (subst (λ (y : List ℕ). HasIntent y i l) (sym e) int) in
-      inr (ts, subst (λ (y : AttemptId). HasRecord y (records.Committed ts) l) (sym own ∙ ap (λ (y : Laid). y.attempt) one ∙ x) decided,
-      inl (sym e, refl, intent, there, own, ap (λ (y : Laid). y.value) one ∙ y))
+      inr (
+        ts,
+        subst (λ (y : AttemptId). HasRecord y (records.Committed ts) l) (sym own ∙ ap (λ (y : Laid). y.attempt) one ∙ x) decided,
+        inl (sym e, refl, intent, there, own, ap (λ (y : Laid). y.value) one ∙ y),
+      )
 
   -- a resolve
   abbrev pub core_resolve : Core (the_resolve ∷ l) r W
@@ -139,9 +139,12 @@ module _ (l : List Entry) (r : Reading) (W : Decided → Type 0) (core : Core l 
         low = core.low;
         one_put = core.one_put;
         versions = λ v h. ⊎_elim
-            (λ (q : (v.key ≡ k) × (v.ts ≡ ts) × (i : Laid) × HasIntent k i l × (i.attempt ≡ a) × (i.value ≡ v.value)).
-              (a, q.2.ts, subst (λ (t : Ts). HasRecord a (records.Committed t) l) (sym q.1) decided,
-              subst (λ (y : List ℕ). HasPut a y v.value q.2.ts l) (sym q.0) (subst (λ (y : Option (List ℕ)). HasPut a k y q.2.ts l) q.5 (subst (λ (y : AttemptId). HasPut y k q.2.value q.2.ts l) q.4 (intent_put l k q.2 q.3)))))
+            (λ (q : (v.key ≡ k) × (v.ts ≡ ts) × (i : Laid) × HasIntent k i l × (i.attempt ≡ a) × (i.value ≡ v.value)). (
+              a,
+              q.2.ts,
+              subst (λ (t : Ts). HasRecord a (records.Committed t) l) (sym q.1) decided,
+              subst (λ (y : List ℕ). HasPut a y v.value q.2.ts l) (sym q.0) (subst (λ (y : Option (List ℕ)). HasPut a k y q.2.ts l) q.5 (subst (λ (y : AttemptId). HasPut y k q.2.value q.2.ts l) q.4 (intent_put l k q.2 q.3))),
+            ))
             (λ (q : HasVersion v l × _). core.versions v q.0) h;
         stands = λ b key u p put. stands_by b key u p put (same_or_not k key) (core.stands b key u p put);
       }

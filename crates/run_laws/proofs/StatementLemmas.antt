@@ -1,5 +1,5 @@
-use Rattle.std.proofs.Common.{◌≡◌, ◌≢◌, ℕ, ℤ, List, [], ◌∷◌, ◌++◌, ◌<◌, ◌+◌, inl, inr, refl, sym, ap, ap₂, ◌∙◌, subst, arith, length, length-append}
-use Rattle.std.specs.Prelude.{map, Option, Some, codes, slice_index}
+use Rattle.std.proofs.Common.{◌≡◌, ℕ, ℤ, List, [], ◌∷◌, ◌++◌, refl, sym, ap, ◌∙◌, subst, arith, length, length-append}
+use Rattle.std.specs.Prelude.{Some, codes, slice_index}
 use Rattle.std.specs.Str.Parse.{signed_digits_value}
 use Rattle.std.proofs.lemmas.List.{append_cancel_left, append_cancel_right}
 use Rattle.mr_base.specs.declared.ids.NodeId.{NodeId}
@@ -13,8 +13,8 @@ use Rattle.scenario.specs.declared.entries.JournalEntry.{JournalEntry}
 use Rattle.scenario.specs.declared.events.Event.{Event}
 use Rattle.scenario.specs.declared.events.Event.TheVariants as events
 use Rattle.run_laws.specs.LinesRun.{LinesRun, NumberedEvent}
-use Rattle.run_laws.specs.Steps.{numbers, IsRunning, IsStepOf}
-use Rattle.run_laws.specs.Words.{Beginning, begun_here, lines_of}
+use Rattle.run_laws.specs.Steps.{IsRunning, IsStepOf}
+use Rattle.run_laws.specs.Words.{Beginning}
 
 first_same : {x y : NumberedEvent} {xs ys : List NumberedEvent} → x ∷ xs ≡ y ∷ ys → x ≡ y
 first_same e = cc

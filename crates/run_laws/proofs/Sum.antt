@@ -1,17 +1,16 @@
-use Rattle.std.proofs.Common.{◌≡◌, ◌≢◌, ℕ, ℤ, Bool, true, false, cond, List, [], ◌∷◌, ◌<◌, ◌≤◌, ◌+◌, inl, inr, ⊎_elim, refl, sym, ap, ap₂, ◌∙◌, subst, arith}
-use Rattle.std.specs.Prelude.{◌⊎◌, ◌↔◌, Option, Some, None, Result, Ok, Err}
+use Rattle.std.proofs.Common.{◌≡◌, List, [], ◌<◌, ◌≤◌}
+use Rattle.std.specs.Prelude.{◌⊎◌, Some, Err}
 use Rattle.mr_base.specs.Spans.{IsInsideOne}
 use Rattle.mr_base.specs.Timestamps.{IsBelow}
 use Rattle.mr_base.specs.declared.ids.AttemptId.{AttemptId}
 use Rattle.mr_base.specs.declared.spans.Span.{Span}
-use Rattle.mr_base.specs.declared.timestamps.Reading.{Reading}
 use Rattle.mr_base.specs.declared.timestamps.Ts.{Ts}
 use Rattle.mvcc_range.specs.Answer.{IsRow}
 use Rattle.range_log.specs.Facts.{HasRecord}
 use Rattle.range_log.specs.declared.entries.TxnState.TheVariants as records
 use Rattle.run_laws.proofs.Core.{Core}
 use Rattle.run_laws.proofs.OrderLemmas.{IsPast}
-use Rattle.run_laws.specs.Decided.{Decided, IsAmong, AreBelow, WasDecided, replay, those_below}
+use Rattle.run_laws.specs.Decided.{Decided, IsAmong, WasDecided, replay, those_below}
 use Rattle.run_laws.specs.LinesRun.{LinesRun}
 use Rattle.run_laws.specs.Serial.{Acknowledged, Answers, Faulted, HasFaulted, WasAcknowledged}
 use Rattle.run_laws.specs.Words.{Beginning, ServedRead, WasServed, IsAnswered, attempts_of, begun_here, greatest_start, log_of, spans_served, the_range}

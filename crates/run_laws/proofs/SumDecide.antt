@@ -1,5 +1,5 @@
-use Rattle.std.proofs.Common.{◌≡◌, ◌≢◌, ℕ, Bool, true, false, List, [], ◌∷◌, ◌≤◌, inl, inr, ⊎_elim, refl, sym, ap, ap₂, ◌∙◌, subst, arith}
-use Rattle.std.specs.Prelude.{◌⊎◌, ◌↔◌, Option, Some, Result, Ok, Err}
+use Rattle.std.proofs.Common.{◌≡◌, ℕ, List, ◌∷◌, ◌≤◌, inl, inr, ⊎_elim, refl, sym, ap, ap₂, ◌∙◌, subst, arith}
+use Rattle.std.specs.Prelude.{◌⊎◌, Option, Result, Err}
 use Rattle.mr_base.specs.Timestamps.{IsBelow}
 use Rattle.mr_base.specs.declared.ids.AttemptId.{AttemptId}
 use Rattle.mr_base.specs.declared.ids.TxnId.{TxnId}
@@ -14,19 +14,18 @@ use Rattle.range_log.specs.declared.entries.TxnState.TheVariants as records
 use Rattle.region_sql.specs.declared.first_forms.FirstStatement.{FirstStatement}
 use Rattle.row_locality.specs.Databases.{Database, IsValid}
 use Rattle.run_laws.proofs.CommitLemmas.{Commits, answers, commits, unchanged}
-use Rattle.run_laws.proofs.Core.{Core, core_iff}
+use Rattle.run_laws.proofs.Core.{core_iff}
 use Rattle.run_laws.proofs.CoreDecide.{core_commit, core_same}
 use Rattle.run_laws.proofs.OrderLemmas.{IsPast, all_are_below, all_below, head_not_below, not_both, not_itself}
 use Rattle.run_laws.proofs.StatementLemmas.{same_beginning, same_statement}
 use Rattle.run_laws.proofs.Sum.{Current, IsDecidedNow, Sum}
-use Rattle.run_laws.proofs.SumSteps.{right, some_same}
-use Rattle.run_laws.specs.Decided.{Decided, Decides, IsAmong, AreBelow, WasDecided, after, replay, those_below}
+use Rattle.run_laws.proofs.SumSteps.{some_same}
+use Rattle.run_laws.specs.Decided.{Decided, AreBelow, WasDecided, after, replay, those_below}
 use Rattle.run_laws.specs.Determined.{Agrees, GivesFault, GivesPuts, GivesResults, IsDetermined}
-use Rattle.run_laws.specs.Lawful.{IsPermitted}
 use Rattle.run_laws.specs.LinesRun.{LinesRun}
 use Rattle.run_laws.specs.Serial.{Acknowledged, Answers, Faulted, HasFaulted, WasAcknowledged}
 use Rattle.run_laws.specs.Steps.{IsStepOf}
-use Rattle.run_laws.specs.Words.{Beginning, HasPut, ServedRead, WasServed, IsAnswered, attempts_of, begun_here, greatest_start, log_of, the_range}
+use Rattle.run_laws.specs.Words.{Beginning, HasPut, ServedRead, WasServed, attempts_of, greatest_start, log_of, the_range}
 use Rattle.scenario.specs.declared.entries.JournalEntry.{JournalEntry}
 use Rattle.scenario.specs.declared.entries.JournalEntry.TheVariants as entry
 use Rattle.scenario.specs.declared.entries.StatementResult.{StatementResult}
@@ -34,7 +33,6 @@ use Rattle.sql_eval.specs.Agreement.{AgreesOn}
 use Rattle.sql_eval.specs.Execution.{Executed, exec}
 
 module _ (s : LinesRun) (journal : List JournalEntry) (sum : Sum s journal) (b : Beginning) (st : FirstStatement) (step : IsStepOf s journal b st) where
-
   cur : Current s journal sum.core.decided b
   cur = sum.current b step.begun
 
@@ -103,7 +101,6 @@ module _ (s : LinesRun) (journal : List JournalEntry) (sum : Sum s journal) (b :
 
   -- a fault
   module _ (t : TxnId) (txn : b.txn ≡ t) (state : SqlState) (det : IsDetermined journal b.attempt st b.start (GivesFault state)) (undecided : (c : Ts) → ¬ HasRecord b.attempt (records.Committed c) (log_of the_range journal)) where
-
     is_fault : exec st (replay sum.core.decided) ≡ Err state
     is_fault = subst (λ (y : Database). exec st y ≡ Err state) (whole undecided) (gives b.start (GivesFault state) det)
 
@@ -154,7 +151,6 @@ module _ (s : LinesRun) (journal : List JournalEntry) (sum : Sum s journal) (b :
 
   -- an acknowledgement
   module _ (t : TxnId) (txn : b.txn ≡ t) (results : List StatementResult) (det : IsDetermined journal b.attempt st b.start (GivesResults st results b.attempt journal)) where
-
     new_answer : (ds : List Decided) → those_below b.start ds ≡ those_below b.start sum.core.decided → (x : Acknowledged) → ((g : Beginning) × IsStepOf s journal g x.statement × (g.txn ≡ t) × (x.ts ≡ b.start) × (x.results ≡ results))
         → Answers x.statement x.results (exec x.statement (replay (those_below x.ts ds)))
     new_answer ds same x (g, other, e, f, z) =
@@ -205,7 +201,6 @@ module _ (s : LinesRun) (journal : List JournalEntry) (sum : Sum s journal) (b :
 
     -- of an attempt that put nothing
     module _ (none : (key : List ℕ) (value : Option (List ℕ)) (at : Ts) → ¬ HasPut b.attempt key value at (log_of the_range journal)) (undecided : (c : Ts) → ¬ HasRecord b.attempt (records.Committed c) (log_of the_range journal)) where
-
       is_unchanged : after (exec st (replay sum.core.decided)) (replay sum.core.decided) ≡ replay sum.core.decided
       is_unchanged =
           subst (λ (y : Database). after (exec st y) y ≡ y) (whole undecided)
@@ -250,8 +245,7 @@ module _ (s : LinesRun) (journal : List JournalEntry) (sum : Sum s journal) (b :
 
   -- a commit
   module _ (index : ℕ) (det : IsDetermined journal b.attempt st b.start (GivesPuts b.attempt journal)) (fresh : (state : TxnState) → ¬ HasRecord b.attempt state (log_of the_range journal))
-    (low : (key : List ℕ) (value : Option (List ℕ)) (p : Ts) → HasPut b.attempt key value p (log_of the_range journal) → ¬ IsBelow b.start p) where
-
+      (low : (key : List ℕ) (value : Option (List ℕ)) (p : Ts) → HasPut b.attempt key value p (log_of the_range journal) → ¬ IsBelow b.start p) where
     undecided_yet : (c : Ts) → ¬ HasRecord b.attempt (records.Committed c) (log_of the_range journal)
     undecided_yet c h = fresh (records.Committed c) h
 

@@ -1,5 +1,5 @@
-use Rattle.std.proofs.Common.{◌≡◌, ◌≢◌, ℕ, List, [], ◌∷◌, ◌≤◌, inl, inr, ⊎_elim, refl, sym, ap, ◌∙◌, subst}
-use Rattle.std.specs.Prelude.{◌⊎◌, Option, Some}
+use Rattle.std.proofs.Common.{◌≡◌, ℕ, List, ◌∷◌, inl, inr, ⊎_elim, sym, subst}
+use Rattle.std.specs.Prelude.{Option}
 use Rattle.mr_base.specs.declared.ids.AttemptId.{AttemptId}
 use Rattle.mr_base.specs.declared.ids.RangeId.{RangeId}
 use Rattle.mr_base.specs.declared.ids.TxnId.{TxnId}
@@ -16,7 +16,7 @@ use Rattle.run_laws.proofs.Sum.{Current, IsDecidedNow, Sum}
 use Rattle.run_laws.proofs.SumSteps.{right}
 use Rattle.run_laws.specs.Lawful.{IsPermitted}
 use Rattle.run_laws.specs.LinesRun.{LinesRun}
-use Rattle.run_laws.specs.Words.{Beginning, begun_here, log_of, the_range}
+use Rattle.run_laws.specs.Words.{Beginning, log_of, the_range}
 use Rattle.scenario.specs.declared.entries.JournalEntry.{JournalEntry}
 use Rattle.scenario.specs.declared.entries.JournalEntry.TheVariants as entry
 use Rattle.scenario.specs.declared.entries.Why.{Why}
@@ -36,8 +36,8 @@ sum_lease s journal index lease sum =
       no_spans = sum.no_spans;
       recorded_by = sum.recorded_by;
       current = λ b e.
-        let cur : Current s journal sum.core.decided b = sum.current b e in
-        record { attempt = cur.attempt; start = cur.start; below = cur.below; commits = cur.commits; acks = cur.acks; faults = cur.faults; agree = cur.agree; at = cur.at; under = cur.under; some = cur.some };
+          let cur : Current s journal sum.core.decided b = sum.current b e in
+          record { attempt = cur.attempt; start = cur.start; below = cur.below; commits = cur.commits; acks = cur.acks; faults = cur.faults; agree = cur.agree; at = cur.at; under = cur.under; some = cur.some };
     }
 
 -- a put
@@ -56,8 +56,8 @@ sum_put s journal index a start anchor ts key value q sum =
       no_spans = sum.no_spans;
       recorded_by = sum.recorded_by;
       current = λ b e.
-        let cur : Current s journal sum.core.decided b = sum.current b e in
-        record { attempt = cur.attempt; start = cur.start; below = cur.below; commits = cur.commits; acks = cur.acks; faults = cur.faults; agree = cur.agree; at = cur.at; under = cur.under; some = cur.some };
+          let cur : Current s journal sum.core.decided b = sum.current b e in
+          record { attempt = cur.attempt; start = cur.start; below = cur.below; commits = cur.commits; acks = cur.acks; faults = cur.faults; agree = cur.agree; at = cur.at; under = cur.under; some = cur.some };
     }
 
 same_fate : {c d : Ts} → fates.Committed c ≡ fates.Committed d → c ≡ d
@@ -80,8 +80,8 @@ resolve_by s journal index a key ts q sum =
       no_spans = sum.no_spans;
       recorded_by = sum.recorded_by;
       current = λ b e.
-        let cur : Current s journal sum.core.decided b = sum.current b e in
-        record { attempt = cur.attempt; start = cur.start; below = cur.below; commits = cur.commits; acks = cur.acks; faults = cur.faults; agree = cur.agree; at = cur.at; under = cur.under; some = cur.some };
+          let cur : Current s journal sum.core.decided b = sum.current b e in
+          record { attempt = cur.attempt; start = cur.start; below = cur.below; commits = cur.commits; acks = cur.acks; faults = cur.faults; agree = cur.agree; at = cur.at; under = cur.under; some = cur.some };
     }
 
 pub sum_resolve : (s : LinesRun) (journal : List JournalEntry) (index : ℕ) (a : AttemptId) (key : List ℕ) (fate : Fate)
@@ -109,17 +109,17 @@ sum_refuse s journal t why sum =
       no_spans = sum.no_spans;
       recorded_by = sum.recorded_by;
       current = λ b e.
-        let cur : Current s journal sum.core.decided b = sum.current b e in
-        record {
-          attempt = cur.attempt;
-          start = cur.start;
-          below = λ d h. ⊎_elim (λ p. inl p) (λ p. inr (later_decided journal b t why p)) (cur.below d h);
-          commits = cur.commits;
-          acks = λ x h. ⊎_elim (λ p. inl p) (λ p. inr (inr p)) (cur.acks x h);
-          faults = λ x h. ⊎_elim (λ p. inl p) (λ p. inr (inr p)) (cur.faults x h);
-          agree = cur.agree;
-          at = cur.at;
-          under = cur.under;
-          some = cur.some;
-        };
+          let cur : Current s journal sum.core.decided b = sum.current b e in
+          record {
+            attempt = cur.attempt;
+            start = cur.start;
+            below = λ d h. ⊎_elim (λ p. inl p) (λ p. inr (later_decided journal b t why p)) (cur.below d h);
+            commits = cur.commits;
+            acks = λ x h. ⊎_elim (λ p. inl p) (λ p. inr (inr p)) (cur.acks x h);
+            faults = λ x h. ⊎_elim (λ p. inl p) (λ p. inr (inr p)) (cur.faults x h);
+            agree = cur.agree;
+            at = cur.at;
+            under = cur.under;
+            some = cur.some;
+          };
     }

@@ -1,12 +1,10 @@
-use Rattle.std.proofs.Common.{◌≡◌, ◌≢◌, ℕ, List, [], ◌∷◌, inl, inr, ⊎_elim, refl, sym, ap, ◌∙◌, subst}
-use Rattle.std.specs.Prelude.{◌⊎◌, ◌↔◌, Option, Some, None, Result}
+use Rattle.std.proofs.Common.{◌≡◌, ℕ, List, [], ◌∷◌, inl, inr, refl, sym, subst}
+use Rattle.std.specs.Prelude.{◌↔◌, Option, Some, None}
 use Rattle.mr_base.specs.Timestamps.{IsBelow}
 use Rattle.mr_base.specs.declared.ids.AttemptId.{AttemptId}
 use Rattle.mr_base.specs.declared.ids.RangeId.{RangeId}
 use Rattle.mr_base.specs.declared.ids.TxnId.{TxnId}
-use Rattle.mr_base.specs.declared.messages.Fate.{Fate}
 use Rattle.mr_base.specs.declared.states.SqlState.{SqlState}
-use Rattle.mr_base.specs.declared.timestamps.Reading.{Reading}
 use Rattle.mr_base.specs.declared.timestamps.Ts.{Ts}
 use Rattle.range_log.specs.Facts.{HasRecord}
 use Rattle.range_log.specs.declared.entries.Entry.{Entry}
@@ -14,7 +12,6 @@ use Rattle.range_log.specs.declared.entries.Entry.TheVariants as log
 use Rattle.range_log.specs.declared.entries.TxnState.{TxnState}
 use Rattle.range_log.specs.declared.entries.TxnState.TheVariants as records
 use Rattle.region_sql.specs.declared.first_forms.FirstStatement.{FirstStatement}
-use Rattle.row_locality.specs.Databases.{Database}
 use Rattle.mr_base.specs.Spans.{InSpan}
 use Rattle.mvcc_range.specs.Answer.{IsRow}
 use Rattle.run_laws.proofs.Core.{Core}
@@ -24,7 +21,7 @@ use Rattle.run_laws.proofs.Sum.{Sum}
 use Rattle.run_laws.proofs.SumDecide.{is_start, sum_ack_commit, sum_ack_reads, sum_commit_at, sum_fault_at}
 use Rattle.run_laws.proofs.SumLog.{sum_lease, sum_put, sum_refuse, sum_resolve}
 use Rattle.run_laws.proofs.SumSteps.{sum_begin, sum_event, sum_serve}
-use Rattle.run_laws.specs.Decided.{Decided, IsHeld, WasDecided, replay, those_below}
+use Rattle.run_laws.specs.Decided.{IsHeld, WasDecided, replay, those_below}
 use Rattle.run_laws.specs.Determined.{GivesFault, GivesPuts, GivesResults, IsAnsweredAt, IsDetermined}
 use Rattle.run_laws.specs.Lawful.{IsLawful, IsPermitted}
 use Rattle.run_laws.specs.LinesRun.{LinesRun}
@@ -74,7 +71,6 @@ sum_nothing s =
     }
 
 module _ (s : LinesRun) (journal : List JournalEntry) (sum : Sum s journal) where
-
   commit_of : (index : ℕ) (b : Beginning) (st : FirstStatement) (step : IsStepOf s journal b st) (c : Ts) → IsDetermined journal b.attempt st c (GivesPuts b.attempt journal)
       → ((state : TxnState) → ¬ HasRecord b.attempt state (log_of the_range journal))
       → ((key : List ℕ) (value : Option (List ℕ)) (p : Ts) → HasPut b.attempt key value p (log_of the_range journal) → ¬ IsBelow c p)
@@ -158,21 +154,22 @@ serial s journal h =
       valid = sum.core.valid;
       held = λ ts key value. (
         λ q.
-          let f : (a : AttemptId) × (c : Ts) × (p : Ts) × HasRecord a (records.Committed c) (log_of the_range journal) × HasPut a key (Some value) p (log_of the_range journal) × IsBelow c ts = sum.core.held_puts ts key value q in
-          record {
-            attempt = f.0;
-            commit = f.1;
-            committed = f.3;
-            laid = f.2;
-            put = f.4;
-            below = f.5;
-            last = λ a c v p rec put under late.
-              let same : a ≡ f.0 = sum.core.one_writer a f.0 c f.1 key v (Some value) p f.2 rec put f.3 f.4 in
-              not_itself f.1 (subst (λ (y : Ts). IsBelow f.1 y) (one_commit_of (log_of the_range journal) f.0 c f.1 (subst (λ (y : AttemptId). HasRecord y (records.Committed c) (log_of the_range journal)) same rec) f.3) late);
-          },
+            let f : (a : AttemptId) × (c : Ts) × (p : Ts) × HasRecord a (records.Committed c) (log_of the_range journal) × HasPut a key (Some value) p (log_of the_range journal) × IsBelow c ts = sum.core.held_puts ts key value q in
+            record {
+              attempt = f.0;
+              commit = f.1;
+              committed = f.3;
+              laid = f.2;
+              put = f.4;
+              below = f.5;
+              last = λ a c v p rec put under late.
+                  let same : a ≡ f.0 = sum.core.one_writer a f.0 c f.1 key v (Some value) p f.2 rec put f.3 f.4 in
+                  not_itself f.1 (subst (λ (y : Ts). IsBelow f.1 y) (one_commit_of (log_of the_range journal) f.0 c f.1 (subst (λ (y : AttemptId). HasRecord y (records.Committed c) (log_of the_range journal)) same rec) f.3) late);
+            },
         λ q.
-          let f : (v : List ℕ) × (Some value ≡ Some v) × Holds (replay (those_below ts sum.core.decided)) key v = sum.core.puts_held ts q.attempt q.commit key (Some value) q.laid q.committed q.put q.below in
-          subst (λ (y : List ℕ). Holds (replay (those_below ts sum.core.decided)) key y) (sym (value_same f.1)) f.2);
+            let f : (v : List ℕ) × (Some value ≡ Some v) × Holds (replay (those_below ts sum.core.decided)) key v = sum.core.puts_held ts q.attempt q.commit key (Some value) q.laid q.committed q.put q.below in
+            subst (λ (y : List ℕ). Holds (replay (those_below ts sum.core.decided)) key y) (sym (value_same f.1)) f.2,
+      );
     }
 
 -- what was served is what the whole run holds below its timestamp

@@ -1,15 +1,12 @@
-use Rattle.std.proofs.Common.{◌≡◌, ◌≢◌, ℕ, ℤ, Bool, true, false, cond, List, [], ◌∷◌, ◌<◌, ◌≤◌, ◌+◌, inl, inr, ⊎_elim, refl, sym, ap, ap₂, ◌∙◌, subst, arith, length}
-use Rattle.std.specs.Prelude.{◌⊎◌, ◌↔◌, Option, Some, None, nat_lt, ◌==◌}
+use Rattle.std.proofs.Common.{◌≡◌, ◌≢◌, ℕ, Bool, true, false, cond, List, ◌∷◌, ◌+◌, inl, inr, ⊎_elim, refl, sym, ap, ◌∙◌, subst, arith, length}
+use Rattle.std.specs.Prelude.{◌⊎◌, Option, Some, None, nat_lt}
 use Rattle.std.proofs.Math.Nat.{sub_self}
 use Rattle.std.proofs.lemmas.Bool.Decides.{nat_tests}
 use Rattle.mr_base.specs.Spans.{IsInsideOne}
-use Rattle.mr_base.specs.Timestamps.{IsBelow, of_reading}
+use Rattle.mr_base.specs.Timestamps.{IsBelow}
 use Rattle.mr_base.specs.declared.ids.AttemptId.{AttemptId}
 use Rattle.mr_base.specs.declared.ids.NodeId.{NodeId}
-use Rattle.mr_base.specs.declared.ids.RangeId.{RangeId}
 use Rattle.mr_base.specs.declared.ids.TxnId.{TxnId}
-use Rattle.mr_base.specs.declared.messages.Fate.{Fate}
-use Rattle.mr_base.specs.declared.messages.Fate.TheVariants as fates
 use Rattle.mr_base.specs.declared.messages.Known.{Known}
 use Rattle.mr_base.specs.declared.spans.Span.{Span}
 use Rattle.mr_base.specs.declared.timestamps.Reading.{Reading}
@@ -17,23 +14,18 @@ use Rattle.mr_base.specs.declared.timestamps.Ts.{Ts}
 use Rattle.mvcc_range.specs.Answer.{GivesRows, IsRow, Read}
 use Rattle.range_log.specs.Facts.{HasRecord, first_entries}
 use Rattle.range_log.specs.declared.entries.Entry.{Entry}
-use Rattle.range_log.specs.declared.entries.Entry.TheVariants as log
-use Rattle.range_log.specs.declared.entries.Lease.{Lease}
 use Rattle.range_log.specs.declared.entries.TxnState.TheVariants as records
-use Rattle.run_laws.proofs.Core.{Core, core_iff, core_later}
-use Rattle.run_laws.proofs.CoreLog.{core_lease, core_put, core_resolve}
+use Rattle.run_laws.proofs.Core.{core_iff, core_later}
 use Rattle.run_laws.proofs.OrderLemmas.{ArePast, IsAheadOf, IsPast, later_ahead, not_itself, past_among, past_below, past_more, past_next, told_apart}
 use Rattle.run_laws.proofs.ServeLemmas.{served_is_held}
-use Rattle.run_laws.proofs.Sum.{Current, IsDecidedNow, Sum}
-use Rattle.run_laws.specs.Begun.{next_start}
-use Rattle.run_laws.specs.Decided.{Decided, IsAmong, WasDecided, replay, those_below}
+use Rattle.run_laws.proofs.Sum.{Current, Sum}
+use Rattle.run_laws.specs.Decided.{replay, those_below}
 use Rattle.run_laws.specs.Lawful.{IsPermitted}
 use Rattle.run_laws.specs.LinesRun.{LinesRun}
-use Rattle.run_laws.specs.Words.{Beginning, ServedRead, WasServed, attempts_of, begun_here, greatest_start, later_reading, log_of, spans_served, the_range}
+use Rattle.run_laws.specs.Words.{Beginning, ServedRead, WasServed, attempts_of, begun_here, greatest_start, later_reading, log_of, the_range}
 use Rattle.scenario.specs.declared.entries.How.{How}
 use Rattle.scenario.specs.declared.entries.JournalEntry.{JournalEntry}
 use Rattle.scenario.specs.declared.entries.JournalEntry.TheVariants as entry
-use Rattle.scenario.specs.declared.entries.Why.{Why}
 use Rattle.sql_eval.specs.Agreement.{AgreesOn}
 
 none_is_some : {b : Beginning} → None ≡ Some b → ⊥
@@ -69,7 +61,6 @@ ahead_by r clock true e = inl (grind (arith, nat_tests, e))
 ahead_by r clock false e = inr (refl, omega arith)
 
 module _ (s : LinesRun) (journal : List JournalEntry) (t : TxnId) (a : AttemptId) (gateway : NodeId) (start : Ts) (limit : Option ℕ) (q : IsPermitted s journal (entry.Begin t a gateway start limit)) (sum : Sum s journal) where
-
   abbrev now : Reading
   now = record { wall = start.wall; logical = start.logical }
 
@@ -130,8 +121,7 @@ all_entries : (n : ℕ) (entries : List Entry) → n ≡ length entries → firs
 all_entries n entries e = rw (e, sub_self (length entries)) refl
 
 module _ (s : LinesRun) (journal : List JournalEntry) (a : AttemptId) (node : NodeId) (span : Span) (at : Ts) (limit : Option ℕ) (count : ℕ) (by : How) (known : List Known)
-  (q : IsPermitted s journal (entry.Serve a node the_range span at limit count by known)) (sum : Sum s journal) where
-
+    (q : IsPermitted s journal (entry.Serve a node the_range span at limit count by known)) (sum : Sum s journal) where
   abbrev the_read : Read
   the_read = record { attempt = a; span = span; at = at; limit = limit; known = known }
 
@@ -142,7 +132,6 @@ module _ (s : LinesRun) (journal : List JournalEntry) (a : AttemptId) (node : No
   entries_are = all_entries count (log_of the_range journal) q.served.applied
 
   module _ (b : Beginning) (here : begun_here journal ≡ Some b) where
-
     cur : Current s journal sum.core.decided b
     cur = sum.current b here
 

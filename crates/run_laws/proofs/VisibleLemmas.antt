@@ -1,13 +1,10 @@
-use Rattle.std.proofs.Common.{◌≡◌, ◌≢◌, ℕ, List, [], ◌∷◌, inl, inr, ⊎_elim, refl, sym, ap, ◌∙◌, subst}
-use Rattle.std.specs.Prelude.{◌⊎◌, Option, Some}
+use Rattle.std.proofs.Common.{◌≡◌, List, [], ◌∷◌, inl, inr, ⊎_elim, refl, sym, ap, ◌∙◌, subst}
 use Rattle.mr_base.specs.Timestamps.{IsBelow}
 use Rattle.mr_base.specs.declared.ids.AttemptId.{AttemptId}
-use Rattle.mr_base.specs.declared.timestamps.Reading.{Reading}
 use Rattle.mr_base.specs.declared.timestamps.Ts.{Ts}
-use Rattle.range_log.specs.Facts.{HasRecord}
 use Rattle.range_log.specs.declared.entries.Entry.TheVariants as log
 use Rattle.range_log.specs.declared.entries.TxnState.TheVariants as records
-use Rattle.run_laws.proofs.OrderLemmas.{IsPast, below_trans, past_below}
+use Rattle.run_laws.proofs.OrderLemmas.{below_trans, past_below}
 use Rattle.run_laws.proofs.Sum.{Sum}
 use Rattle.run_laws.proofs.SumDecide.{is_start}
 use Rattle.run_laws.proofs.SumOf.{sum_of}
@@ -16,8 +13,8 @@ use Rattle.run_laws.specs.Determined.{GivesPuts, GivesResults, IsDetermined}
 use Rattle.run_laws.specs.Lawful.{IsLawful}
 use Rattle.run_laws.specs.LinesRun.{LinesRun}
 use Rattle.run_laws.specs.Serial.{Acknowledged, WasAcknowledged}
-use Rattle.run_laws.specs.Visible.{Acked, BeganAfter, IsShown, IsVisible, WasAcked, WasDecidedAt, WroteInto}
-use Rattle.run_laws.specs.Words.{Beginning, begun_here, greatest_start, log_of, the_range}
+use Rattle.run_laws.specs.Visible.{Acked, BeganAfter, IsVisible, WasAcked, WasDecidedAt, WroteInto}
+use Rattle.run_laws.specs.Words.{Beginning, greatest_start}
 use Rattle.scenario.specs.declared.entries.JournalEntry.{JournalEntry}
 use Rattle.scenario.specs.declared.entries.JournalEntry.TheVariants as entry
 
@@ -48,7 +45,7 @@ decided_at s [] h b ts w = absurd w
 decided_at s (entry.Append range index (log.State a (records.Committed c)) ∷ before) h b ts (inl (here, e)) =
     e
     ∙ is_start s before (sum_of s before h.1) h.0.determined.0 h.0.determined.1 h.0.determined.2 c (GivesPuts h.0.determined.0.attempt before)
-      (subst (λ (y : AttemptId). IsDetermined before y h.0.determined.1 c (GivesPuts y before)) (sym h.0.determined.3) h.0.determined.4)
+    (subst (λ (y : AttemptId). IsDetermined before y h.0.determined.1 c (GivesPuts y before)) (sym h.0.determined.3) h.0.determined.4)
     ∙ ap (λ (y : Beginning). y.start) (some_same (sym h.0.determined.2.begun ∙ here))
 decided_at s (entry.Append range index (log.State a (records.Committed c)) ∷ before) h b ts (inr w) = decided_at s before h.1 b ts w
 decided_at s (entry.Ack t at results ∷ before) h b ts (inl (here, e)) =

@@ -1,4 +1,4 @@
-use Rattle.std.specs.Prelude.{◌≡◌, ℕ, ◌+◌, ⊤, List, [], Some, length}
+use Rattle.std.specs.Prelude.{◌≡◌, ◌+◌, ⊤, List, [], Some, length}
 use Rattle.mr_base.specs.declared.ids.RangeId.{RangeId}
 use Rattle.range_log.specs.Facts.{lease_of}
 use Rattle.range_log.specs.declared.entries.Entry.{Entry}

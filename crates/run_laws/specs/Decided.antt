@@ -15,7 +15,7 @@ use Rattle.sql_eval.specs.Execution.{Executed, exec}
 use Rattle.run_laws.specs.Determined.{IsUncommitted}
 use Rattle.run_laws.specs.LinesRun.{LinesRun}
 use Rattle.run_laws.specs.Steps.{IsStepOf}
-use Rattle.run_laws.specs.Words.{Beginning, HasPut, log_of, the_range}
+use Rattle.run_laws.specs.Words.{Beginning, HasPut}
 
 -- A decided transaction: its timestamp and its statement.
 pub record Decided : Type 0 where

@@ -1,4 +1,4 @@
-use Rattle.std.specs.Prelude.{◌≡◌, ℕ, List, ◌∷◌, ◌++◌, Option, Some, None}
+use Rattle.std.specs.Prelude.{◌≡◌, ℕ, List, ◌∷◌, ◌++◌}
 use Rattle.mr_base.specs.declared.ids.AttemptId.{AttemptId}
 use Rattle.mr_base.specs.declared.ids.TxnId.{TxnId}
 use Rattle.mr_base.specs.declared.settings.Kind.TheVariants as kinds

@@ -1,4 +1,4 @@
-use Rattle.std.specs.Prelude.{◌≡◌, ℕ, ⊤, List, Option, Some}
+use Rattle.std.specs.Prelude.{◌≡◌, ℕ, ⊤, List, Option}
 use Rattle.mr_base.specs.Timestamps.{IsBelow}
 use Rattle.mr_base.specs.declared.ids.AttemptId.{AttemptId}
 use Rattle.mr_base.specs.declared.ids.RangeId.{RangeId}

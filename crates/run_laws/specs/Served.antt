@@ -6,7 +6,7 @@ use Rattle.mr_base.specs.declared.ids.RangeId.{RangeId}
 use Rattle.mr_base.specs.declared.messages.Known.{Known}
 use Rattle.mr_base.specs.declared.spans.Span.{Span}
 use Rattle.mr_base.specs.declared.timestamps.Ts.{Ts}
-use Rattle.mvcc_range.specs.Answer.{Read, GivesRows}
+use Rattle.mvcc_range.specs.Answer.{GivesRows}
 use Rattle.range_log.specs.Facts.{lease_of, closed_of, first_entries}
 use Rattle.range_log.specs.declared.entries.Entry.{Entry}
 use Rattle.range_log.specs.declared.entries.Lease.{Lease}
