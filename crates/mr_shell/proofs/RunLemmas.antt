@@ -24,7 +24,7 @@ use Rattle.scenario.proofs.NamesOnly.{NamesOnly-append, NamesOnly-reverse, Names
 use Rattle.sim_cluster.specs.Cluster.{GoesOn, IsOf, IsRunOf}
 use Rattle.sim_cluster.specs.View.{View}
 use Rattle.mr_base.specs.declared.settings.Settings.{Settings}
-use Rattle.mr_shell.specs.Run.{RunsLine, ShowsAll, ShowsEntries, ShowsPart}
+use Rattle.mr_shell.specs.Run.{AreRun, RunsLine, ShowsAll, ShowsEntries, ShowsPart}
 use Rattle.mr_shell.specs.Session.{Follows}
 use Rattle.run_laws.specs.LinesRun.{with_line}
 use Rattle.mr_shell.specs.Story.{Story, Tells, run_with}

@@ -1,19 +1,14 @@
-use Rattle.std.proofs.Common.{◌≡◌, ◌≢◌, ℕ, List, [], ◌∷◌, ◌++◌, ◌≤◌, ◌<◌, ◌+◌, ◌*◌, inl, inr, refl, sym, ap, ap₂, ◌∙◌, subst, arith}
+use Rattle.std.proofs.Common.{◌≡◌, ◌≢◌, ℕ, List, [], ◌∷◌, ◌++◌, ◌+◌, inl, inr, refl, sym, ap, ap₂, ◌∙◌, subst, arith}
 use Rattle.std.specs.Prelude.{Some, ◌⊎◌, ◌↔◌, reverse}
-use Rattle.mr_base.specs.declared.ids.RangeId.{RangeId}
-use Rattle.mr_base.specs.declared.ids.TxnId.{TxnId}
 use Rattle.mr_base.specs.declared.timestamps.Reading.{Reading}
 use Rattle.range_log.specs.declared.entries.Entry.TheVariants as log
 use Rattle.range_log.specs.declared.entries.Lease.{Lease}
 use Rattle.sim_cluster.proofs.JournalLemmas.{journal_is}
-use Rattle.run_laws.specs.Caused.{IsCaused}
-use Rattle.run_laws.specs.Lawful.{IsLawful, IsPermitted}
 use Rattle.run_laws.specs.LinesRun.{LinesRun, NumberedEvent, with_line}
-use Rattle.run_laws.specs.Runs.{IsRun, going_on, HasLine}
+use Rattle.run_laws.specs.Runs.{IsRun}
 use Rattle.run_laws.specs.Steps.{numbers}
 use Rattle.run_laws.specs.Whole.{AreMade}
-use Rattle.run_laws.specs.Words.{Beginning, Began, attempts_of, greatest_start, log_of, the_range}
-use Rattle.scenario.specs.Names.{NamesOnly}
+use Rattle.run_laws.specs.Words.{attempts_of, greatest_start, log_of, the_range}
 use Rattle.scenario.specs.declared.entries.JournalEntry.{JournalEntry}
 use Rattle.scenario.specs.declared.entries.JournalEntry.TheVariants as entry
 use Rattle.scenario.specs.declared.events.Event.TheVariants as events

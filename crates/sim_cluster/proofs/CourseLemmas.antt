@@ -1,36 +1,29 @@
-use Rattle.std.proofs.Common.{◌≡◌, ◌≢◌, ℕ, ℤ, Bool, true, false, cond, List, [], ◌∷◌, ◌++◌, ◌≤◌, ◌<◌, ◌+◌, inl, inr, ⊎_elim, refl, sym, ap, ap₂, ◌∙◌, subst, arith, length, reverse}
-use Rattle.std.specs.Prelude.{map, nat_lt, ◌==◌, ◌⊎◌, ◌↔◌, Option, Some, Result, Ok, Err}
-use Rattle.std.proofs.lemmas.List.{length-map}
-use Rattle.closed_ts.specs.Serving.{ServesByLease, ServesByClosure}
+use Rattle.std.proofs.Common.{◌≡◌, ℕ, ℤ, List, [], ◌∷◌, ◌+◌, inl, inr, refl, sym, ap, ◌∙◌, subst, arith, length}
+use Rattle.std.specs.Prelude.{map, Option, Some, Result, Err}
+use Rattle.closed_ts.specs.Serving.{ServesByLease}
 use Rattle.mr_base.specs.Timestamps.{IsBelow}
-use Rattle.mr_base.specs.declared.ids.AttemptId.{AttemptId}
 use Rattle.mr_base.specs.declared.messages.Fate.TheVariants as fates
-use Rattle.mr_base.specs.declared.settings.Kind.TheVariants as kinds
 use Rattle.mr_base.specs.declared.spans.Span.{Span}
 use Rattle.mr_base.specs.declared.states.SqlState.{SqlState}
 use Rattle.mr_base.specs.declared.states.SqlState.TheVariants as states
 use Rattle.mr_base.specs.declared.timestamps.Reading.{Reading}
 use Rattle.mr_base.specs.declared.timestamps.Ts.{Ts}
-use Rattle.range_log.specs.Facts.{Version, HasVersion, HasRecord, lease_of, closed_of}
-use Rattle.range_log.specs.Facts as facts_of
-use Rattle.range_log.specs.declared.entries.Entry.{Entry}
+use Rattle.range_log.specs.Facts.{lease_of}
 use Rattle.range_log.specs.declared.entries.Entry.TheVariants as log
 use Rattle.range_log.specs.declared.entries.Lease.{Lease}
 use Rattle.range_log.specs.declared.entries.TxnState.TheVariants as records
 use Rattle.region_sql.specs.declared.first_forms.FirstStatement.{FirstStatement}
-use Rattle.region_sql.specs.declared.first_forms.FirstStatement.TheVariants.{Insert, SelectAll}
-use Rattle.row_locality.specs.Databases.{Database, IsValid, AreRising, AreInts, HasId, IsInt, row_with}
-use Rattle.row_locality.specs.IntRows.{int_key, int_value, point_of, the_primary_keys}
+use Rattle.row_locality.specs.Databases.{Database, IsValid, row_with}
+use Rattle.row_locality.specs.IntRows.{int_key, int_value}
 use Rattle.run_laws.specs.Appended.{IsHolder}
-use Rattle.run_laws.specs.Begun.{reading_at}
 use Rattle.run_laws.specs.Caused.{Cause}
-use Rattle.run_laws.specs.Determined.{Agrees, ArePuts, GivesFault, GivesPuts, GivesResults, IsDetermined}
+use Rattle.run_laws.specs.Determined.{Agrees, GivesFault, GivesPuts, GivesResults, IsDetermined}
 use Rattle.run_laws.specs.Laid.{StandsInTheWay}
 use Rattle.run_laws.specs.Lawful.{IsPermitted}
 use Rattle.run_laws.specs.LinesRun.{LinesRun, NumberedEvent}
 use Rattle.run_laws.specs.Served.{MayServe}
 use Rattle.run_laws.specs.Steps.{IsStepOf}
-use Rattle.run_laws.specs.Words.{ServedRead, WasServed, HasPut, log_of, the_node, the_range}
+use Rattle.run_laws.specs.Words.{ServedRead, HasPut, log_of, the_node, the_range}
 use Rattle.scenario.specs.declared.entries.How.{How}
 use Rattle.scenario.specs.declared.entries.How.TheVariants as how
 use Rattle.scenario.specs.declared.entries.JournalEntry.{JournalEntry}
@@ -38,21 +31,17 @@ use Rattle.scenario.specs.declared.entries.JournalEntry.TheVariants as entry
 use Rattle.scenario.specs.declared.entries.Verb.TheVariants as verbs
 use Rattle.mr_base.specs.Spans.{IsInsideOne}
 use Rattle.sql_eval.specs.NextSpan.{span_of}
-use Rattle.sim_cluster.proofs.FactLemmas.{LogFacts, faults, insert_puts, inserts, no_spans, selects}
+use Rattle.sim_cluster.proofs.FactLemmas.{LogFacts, no_spans}
 use Rattle.sim_cluster.proofs.JournalLemmas.{served_before}
-use Rattle.sim_cluster.proofs.KnownLemmas.{IsOfInts, int_of_statement}
-use Rattle.sim_cluster.proofs.LineLemmas.{TxnFacts, agrees_with, asks_nothing, at_start, beginning_of, begin_ok, entries_are, event_ok, log_is, one_serve, reads, serve_ok, served_journal, step_of, the_read, the_served, with_txn}
+use Rattle.sim_cluster.proofs.LineLemmas.{TxnFacts, asks_nothing, at_start, beginning_of, log_is, served_journal, step_of, with_txn}
 use Rattle.sim_cluster.proofs.ReadLemmas.{below_start, not_before_it, not_itself_ts}
-use Rattle.sim_cluster.proofs.RowLemmas.{contains_id, contains_no_id}
-use Rattle.sim_cluster.specs.Bounds.{IsBehind, IsAhead}
-use Rattle.sim_cluster.specs.Courses.{Goes, IsServable}
-use Rattle.sim_cluster.specs.Kept.{HasRowOf, nothing_kept, tidy_log}
-use Rattle.sim_cluster.specs.Steps.{append_step, begin_step, serve_step, ack_insert, ack_select, duplicate, no_lease, first_lease}
+use Rattle.sim_cluster.specs.Bounds.{IsBehind}
+use Rattle.sim_cluster.specs.Courses.{IsServable}
+use Rattle.sim_cluster.specs.Kept.{nothing_kept}
+use Rattle.sim_cluster.specs.Steps.{append_step, begin_step, ack_insert, ack_select, duplicate, no_lease, first_lease}
 use Rattle.sim_cluster.specs.declared.range.Range.{Range}
 use Rattle.sim_cluster.specs.declared.transaction.Begun.{Begun}
-use Rattle.sql_eval.proofs.ExecutionLemmas.{no_change}
-use Rattle.sql_eval.specs.Agreement.{IsChange}
-use Rattle.sql_eval.specs.Execution.{Executed, exec, with_id}
+use Rattle.sql_eval.specs.Execution.{Executed, exec}
 
 some_same : {l m : Lease} → Some l ≡ Some m → l ≡ m
 some_same e = cc

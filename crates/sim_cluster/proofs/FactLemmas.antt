@@ -1,36 +1,31 @@
-use Rattle.std.proofs.Common.{◌≡◌, ◌≢◌, ℕ, ℤ, Bool, true, false, cond, List, [], ◌∷◌, ◌++◌, ◌≤◌, ◌<◌, ◌+◌, inl, inr, ⊎_elim, refl, sym, ap, ap₂, ◌∙◌, subst, arith, length}
-use Rattle.std.specs.Prelude.{map, nat_lt, ◌==◌, ◌⊎◌, ◌↔◌, Option, Some, Result, Ok, Err}
+use Rattle.std.proofs.Common.{◌≡◌, ℕ, ℤ, Bool, true, false, cond, List, [], ◌∷◌, ◌<◌, inl, ⊎_elim, refl, sym, ap, subst, arith, length}
+use Rattle.std.specs.Prelude.{map, ◌==◌, ◌↔◌, Option, Some, Result, Ok, Err}
 use Rattle.std.proofs.lemmas.Bool.Decides.{nat_tests}
-use Rattle.mr_base.proofs.SpanLemmas.{inside_itself}
-use Rattle.mr_base.specs.Spans.{InSpan, IsInsideOne}
-use Rattle.mr_base.specs.Timestamps.{IsBelow, of_reading}
 use Rattle.mr_base.specs.declared.ids.AttemptId.{AttemptId}
 use Rattle.mr_base.specs.declared.spans.Pair.{Pair}
-use Rattle.mr_base.specs.declared.spans.Span.{Span}
 use Rattle.mr_base.specs.declared.states.SqlState.TheVariants as states
 use Rattle.mr_base.specs.declared.timestamps.Reading.{Reading}
 use Rattle.mr_base.specs.declared.timestamps.Ts.{Ts}
-use Rattle.mvcc_range.specs.Answer.{Read, IsRow, GivesRows}
-use Rattle.range_log.specs.Facts.{Laid, HasIntent, Version, HasVersion, HasRecord, lease_of, closed_of, first_entries}
+use Rattle.mvcc_range.specs.Answer.{Read, IsRow}
+use Rattle.range_log.specs.Facts.{Laid, HasIntent, Version, HasVersion, HasRecord, lease_of, closed_of}
 use Rattle.range_log.specs.declared.entries.Entry.{Entry}
 use Rattle.range_log.specs.declared.entries.Entry.TheVariants as log
 use Rattle.range_log.specs.declared.entries.TxnState.{TxnState}
-use Rattle.region_sql.specs.declared.first_forms.FirstStatement.{FirstStatement}
-use Rattle.region_sql.specs.declared.first_forms.FirstStatement.TheVariants.{Insert, SelectAll}
+use Rattle.region_sql.specs.declared.first_forms.FirstStatement.TheVariants.{Insert}
 use Rattle.row_locality.proofs.KeyLemmas.{same_key, in_point, in_primary_keys}
-use Rattle.row_locality.specs.Databases.{Database, IsValid, AreRising, AreInts, HasId, IsInt, row_with}
-use Rattle.row_locality.specs.IntRows.{int_key, int_value, int_pair, point_of, the_primary_keys}
-use Rattle.run_laws.specs.Words.{HasPut, ServedRead, WasServed, greatest_put, log_of, spans_served, the_range}
+use Rattle.row_locality.specs.Databases.{AreRising, AreInts, HasId, IsInt, row_with}
+use Rattle.row_locality.specs.IntRows.{int_key, int_value, point_of, the_primary_keys}
+use Rattle.run_laws.specs.Words.{HasPut, greatest_put, spans_served, the_range}
 use Rattle.scenario.specs.declared.entries.JournalEntry.{JournalEntry}
 use Rattle.scenario.specs.declared.entries.JournalEntry.TheVariants as entry
-use Rattle.sim_cluster.proofs.LogLemmas.{IsHeld, all_entries, held_behind, no_intent, tidy_closed, tidy_lease, tidy_puts, tidy_records, version_of, version_row}
-use Rattle.sim_cluster.proofs.ReadLemmas.{Reads, agreeing_has, agreeing_held, gives_rows, int_of}
-use Rattle.sim_cluster.specs.Bounds.{IsBehind, IsAhead}
+use Rattle.sim_cluster.proofs.LogLemmas.{IsHeld, held_behind, no_intent, tidy_closed, tidy_lease, tidy_puts, tidy_records, version_of, version_row}
+use Rattle.sim_cluster.proofs.ReadLemmas.{Reads, agreeing_has, agreeing_held, int_of}
+use Rattle.sim_cluster.specs.Bounds.{IsBehind}
 use Rattle.sim_cluster.specs.Kept.{HeldRow, HasRowOf, AreRows, AreWithin, nothing_kept, tidy_log}
 use Rattle.sim_cluster.specs.Steps.{first_lease}
-use Rattle.sql_eval.proofs.ExecutionLemmas.{is_change, changes, no_change, same_ids, tests_id, tests_no_id}
+use Rattle.sql_eval.proofs.ExecutionLemmas.{is_change, changes, same_ids, tests_id, tests_no_id}
 use Rattle.sql_eval.specs.Agreement.{AgreesOn, IsChange}
-use Rattle.sql_eval.specs.Execution.{Executed, exec, has_id, with_id}
+use Rattle.sql_eval.specs.Execution.{Executed, exec, with_id}
 
 -- numbers that differ are told apart, and one is told to be itself
 pub told_apart : (m n : ℕ) → m < n → (m == n) ≡ false

@@ -1,24 +1,14 @@
-use Rattle.std.proofs.Common.{◌≡◌, ◌≢◌, ℕ, Bool, true, false, cond, ◌||◌, ◌&&◌, List, [], ◌∷◌, ◌++◌, ◌≤◌, ◌<◌, ◌+◌, inl, inr, ⊎_elim, refl, sym, ap, ◌∙◌, subst, arith, append_assoc}
-use Rattle.std.specs.Prelude.{reverse, map, nat_lt, ◌==◌, ◌⊎◌, Option, Some}
+use Rattle.std.proofs.Common.{◌≡◌, ℕ, List, [], ◌∷◌, ◌++◌, ◌≤◌, ◌<◌, ◌+◌, inl, inr, sym, ap, ◌∙◌, subst, arith}
+use Rattle.std.specs.Prelude.{reverse, ◌⊎◌}
 use Rattle.std.proofs.lemmas.List.{reverse-append}
-use Rattle.std.proofs.lemmas.Bool.Decides.{nat_tests}
-use Rattle.mr_base.specs.declared.ids.AttemptId.{AttemptId}
 use Rattle.mr_base.specs.declared.ids.RangeId.{RangeId}
-use Rattle.mr_base.specs.declared.ids.TxnId.{TxnId}
-use Rattle.mr_base.specs.declared.spans.Span.{Span}
 use Rattle.mr_base.specs.declared.timestamps.Reading.{Reading}
 use Rattle.mr_base.specs.declared.timestamps.Ts.{Ts}
-use Rattle.range_log.specs.declared.entries.Entry.{Entry}
 use Rattle.range_log.specs.declared.entries.Entry.TheVariants as log
-use Rattle.run_laws.specs.LinesRun.{LinesRun, NumberedEvent, AreNotOf, IsNotOf}
-use Rattle.run_laws.specs.Runs.{HasLine, IsLineOf}
-use Rattle.run_laws.specs.Words.{Beginning, Began, IsAnswered, ServedRead, WasServed, attempts_of, greatest_start, later_reading, lines_of, log_of, spans_served, the_range}
-use Rattle.scenario.specs.Names.{NamesOnly}
+use Rattle.run_laws.specs.Words.{ServedRead, WasServed}
 use Rattle.scenario.specs.declared.entries.JournalEntry.{JournalEntry}
 use Rattle.scenario.specs.declared.entries.JournalEntry.TheVariants as entry
-use Rattle.scenario.specs.declared.events.Event.{Event}
-use Rattle.scenario.specs.declared.events.Event.TheVariants as events
-use Rattle.sim_cluster.specs.Bounds.{IsBehind, IsAhead}
+use Rattle.sim_cluster.specs.Bounds.{IsBehind}
 use Rattle.sim_cluster.specs.Kept.{IsWithin, AreWithin}
 
 -- the journal is read off its entries, the newest first

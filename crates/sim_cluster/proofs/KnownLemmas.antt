@@ -1,5 +1,5 @@
 use Rattle.std.proofs.Common.{◌≡◌, ◌≢◌, ℕ, suc, ℤ, Bool, true, false, cond, ◌||◌, ◌&&◌, List, [], ◌∷◌, ◌++◌, ◌≤◌, ◌<◌, ◌+◌, ◌*◌, inl, inr, ⊎_elim, refl, sym, ap, ap₂, ◌∙◌, subst, arith, int_cmp}
-use Rattle.std.specs.Prelude.{reverse, nat_lt, ◌==◌, ◌⊎◌, ◌↔◌, Option, Some, length, IsTrue}
+use Rattle.std.specs.Prelude.{reverse, nat_lt, ◌==◌, ◌⊎◌, ◌↔◌, Some, length}
 use Rattle.std.proofs.lemmas.Bool.Decides.{nat_tests}
 use Rattle.std.specs.BTreeSet.{contains, insert_key}
 use Rattle.mr_base.specs.Timestamps.{of_reading}
@@ -17,7 +17,7 @@ use Rattle.run_laws.specs.Words.{attempts_of, greatest_start, later_reading, log
 use Rattle.scenario.specs.declared.entries.JournalEntry.{JournalEntry}
 use Rattle.sim_cluster.proofs.JournalLemmas.{behind_next, within_next}
 use Rattle.sim_cluster.proofs.RowLemmas.{rising_insert, ints_insert, has_insert, contains_no_id}
-use Rattle.sim_cluster.specs.Bounds.{IsBehind, IsAhead}
+use Rattle.sim_cluster.specs.Bounds.{IsBehind}
 use Rattle.sim_cluster.specs.Courses.{Goes, IsAdded, IsTakenIn}
 use Rattle.sim_cluster.specs.Kept.{HeldRow, HasRowOf, AreRows, AreWithin, IsKept, IsKnown, IsUnmade, tidy_log}
 use Rattle.sim_cluster.specs.Steps.{line_steps}

@@ -1,31 +1,25 @@
-use Rattle.std.proofs.Common.{◌≡◌, ◌≢◌, ℕ, ℤ, Bool, true, false, cond, List, [], ◌∷◌, ◌++◌, ◌≤◌, ◌<◌, ◌+◌, inl, inr, ⊎_elim, refl, sym, ap, ap₂, ◌∙◌, subst, arith, length, reverse}
-use Rattle.std.specs.Prelude.{map, nat_lt, ◌==◌, ◌⊎◌, ◌↔◌, Option, Some, Result, Ok, Err}
-use Rattle.closed_ts.specs.Serving.{ServesByLease, ServesByClosure}
+use Rattle.std.proofs.Common.{◌≡◌, ◌≢◌, ℕ, Bool, cond, List, [], ◌∷◌, ◌≤◌, ◌<◌, ◌+◌, inl, inr, refl, sym, ap, ◌∙◌, subst, arith, length}
+use Rattle.std.specs.Prelude.{Some}
 use Rattle.mr_base.proofs.SpanLemmas.{inside_itself}
-use Rattle.mr_base.specs.Spans.{InSpan, IsInsideOne}
-use Rattle.mr_base.specs.Timestamps.{IsBelow, of_reading}
+use Rattle.mr_base.specs.Spans.{IsInsideOne}
+use Rattle.mr_base.specs.Timestamps.{of_reading}
 use Rattle.mr_base.specs.declared.ids.AttemptId.{AttemptId}
 use Rattle.mr_base.specs.declared.settings.Kind.TheVariants as kinds
 use Rattle.mr_base.specs.declared.spans.Span.{Span}
-use Rattle.mr_base.specs.declared.states.SqlState.TheVariants as states
 use Rattle.mr_base.specs.declared.timestamps.Reading.{Reading}
-use Rattle.mr_base.specs.declared.timestamps.Ts.{Ts}
 use Rattle.mvcc_range.specs.Answer.{Read, IsRow, GivesRows}
-use Rattle.range_log.specs.Facts.{lease_of, closed_of, first_entries}
+use Rattle.range_log.specs.Facts.{lease_of, first_entries}
 use Rattle.range_log.specs.declared.entries.Entry.{Entry}
-use Rattle.range_log.specs.declared.entries.Entry.TheVariants as log
-use Rattle.range_log.specs.declared.entries.Lease.{Lease}
 use Rattle.region_sql.specs.FirstForms.{IsFirstText}
 use Rattle.region_sql.specs.declared.first_forms.FirstStatement.{FirstStatement}
-use Rattle.region_sql.specs.declared.first_forms.FirstStatement.TheVariants.{Insert, SelectAll}
 use Rattle.run_laws.specs.Begun.{next_start, reading_at}
 use Rattle.run_laws.specs.Determined.{Agrees}
 use Rattle.run_laws.specs.Lawful.{IsPermitted}
 use Rattle.run_laws.specs.LinesRun.{LinesRun, NumberedEvent, with_line}
 use Rattle.run_laws.specs.Runs.{going_on}
 use Rattle.run_laws.specs.Served.{MayServe}
-use Rattle.run_laws.specs.Steps.{numbers, IsRunning, IsStepOf}
-use Rattle.run_laws.specs.Words.{Beginning, ServedRead, WasServed, IsAnswered, attempts_of, begun_here, greatest_start, lines_of, log_of, spans_served, the_node, the_range}
+use Rattle.run_laws.specs.Steps.{numbers, IsStepOf}
+use Rattle.run_laws.specs.Words.{Beginning, ServedRead, WasServed, IsAnswered, attempts_of, begun_here, lines_of, log_of, spans_served, the_node, the_range}
 use Rattle.scenario.specs.declared.entries.How.TheVariants as how
 use Rattle.scenario.specs.declared.entries.JournalEntry.{JournalEntry}
 use Rattle.scenario.specs.declared.entries.JournalEntry.TheVariants as entry
@@ -33,13 +27,13 @@ use Rattle.scenario.specs.declared.events.Event.TheVariants as events
 use Rattle.sim_cluster.proofs.FactLemmas.{LogFacts, log_facts, no_spans, told_same}
 use Rattle.sim_cluster.proofs.JournalLemmas.{served_before}
 use Rattle.sim_cluster.proofs.LogLemmas.{all_entries}
-use Rattle.sim_cluster.proofs.ReadLemmas.{Reads, gives_rows, below_start, not_before_it, not_itself_ts}
+use Rattle.sim_cluster.proofs.ReadLemmas.{Reads, gives_rows}
 use Rattle.row_locality.specs.Databases.{Database}
 use Rattle.sql_eval.specs.Agreement.{AgreesOn}
-use Rattle.sim_cluster.specs.Bounds.{IsBehind, IsAhead}
+use Rattle.sim_cluster.specs.Bounds.{IsAhead}
 use Rattle.sim_cluster.specs.Courses.{IsServable}
-use Rattle.sim_cluster.specs.Kept.{HeldRow, AreWithin, IsKept, tidy_log}
-use Rattle.sim_cluster.specs.Steps.{begin_step, serve_step, first_lease}
+use Rattle.sim_cluster.specs.Kept.{AreWithin, IsKept, tidy_log}
+use Rattle.sim_cluster.specs.Steps.{begin_step, serve_step}
 use Rattle.sim_cluster.specs.declared.range.Range.{Range}
 use Rattle.sim_cluster.specs.declared.transaction.Begun.{Begun}
 use Rattle.sql_eval.specs.NextSpan.{span_of}

@@ -1,19 +1,17 @@
-use Rattle.std.proofs.Common.{◌≡◌, ℕ, ℤ, List, [], ◌∷◌, ◌++◌, ◌≤◌, ◌<◌, ◌+◌, ◌-◌, inl, inr, ⊎_elim, refl, sym, ap, ◌∙◌, subst, arith}
-use Rattle.std.specs.Prelude.{Option, Some, length, drop, ◌⊎◌}
+use Rattle.std.proofs.Common.{◌≡◌, ℕ, ℤ, List, [], ◌∷◌, ◌<◌, inl, inr, refl, sym, ap, ◌∙◌, subst, arith}
+use Rattle.std.specs.Prelude.{Option, Some, length, ◌⊎◌}
 use Rattle.std.proofs.Math.Nat.{sub_self}
-use Rattle.mr_base.specs.Timestamps.{IsBelow}
 use Rattle.mr_base.specs.declared.ids.AttemptId.{AttemptId}
 use Rattle.mr_base.specs.declared.timestamps.Reading.{Reading}
 use Rattle.mr_base.specs.declared.timestamps.Ts.{Ts}
-use Rattle.mvcc_range.specs.Answer.{Read, Sees, IsNewest, IsRow, IsClear, GivesRows}
-use Rattle.range_log.specs.Facts.{Laid, HasIntent, Version, HasVersion, HasRecord, Makes, IsInPlaceOf, lease_of, closed_of, first_entries}
+use Rattle.range_log.specs.Facts.{Laid, HasIntent, Version, HasVersion, HasRecord, lease_of, closed_of, first_entries}
 use Rattle.range_log.specs.declared.entries.Entry.{Entry}
 use Rattle.range_log.specs.declared.entries.TxnState.{TxnState}
 use Rattle.row_locality.proofs.KeyLemmas.{same_key}
 use Rattle.row_locality.specs.Databases.{IsInt}
 use Rattle.row_locality.specs.IntRows.{int_key, int_value}
 use Rattle.run_laws.specs.Words.{HasPut, the_range}
-use Rattle.sim_cluster.specs.Bounds.{IsBehind, IsAhead}
+use Rattle.sim_cluster.specs.Bounds.{IsBehind}
 use Rattle.sim_cluster.specs.Kept.{HeldRow, HasRowOf, AreRows, nothing_kept, tidy_log}
 use Rattle.sim_cluster.specs.Steps.{first_lease}
 

@@ -1,27 +1,21 @@
-use Rattle.std.proofs.Common.{◌≡◌, ◌≢◌, ℕ, ℤ, true, false, List, [], ◌∷◌, ◌++◌, ◌≤◌, ◌<◌, ◌+◌, inl, inr, ⊎_elim, refl, sym, ap, ap₂, ◌∙◌, subst, arith, length}
-use Rattle.std.specs.Prelude.{map, ◌⊎◌, ◌↔◌, Option, Some}
-use Rattle.std.proofs.lemmas.Bool.Decides.{nat_tests}
-use Rattle.closed_ts.specs.Serving.{ServesByLease, ServesByClosure}
+use Rattle.std.proofs.Common.{◌≡◌, ℕ, ℤ, List, [], ◌∷◌, inl, inr, sym, ap, ◌∙◌, subst, arith}
+use Rattle.std.specs.Prelude.{map, Some}
 use Rattle.mr_base.specs.Spans.{InSpan}
 use Rattle.mr_base.specs.Timestamps.{IsBelow}
-use Rattle.mr_base.specs.declared.ids.AttemptId.{AttemptId}
 use Rattle.mr_base.specs.declared.spans.Pair.{Pair}
 use Rattle.mr_base.specs.declared.spans.Span.{Span}
 use Rattle.mr_base.specs.declared.timestamps.Reading.{Reading}
 use Rattle.mr_base.specs.declared.timestamps.Ts.{Ts}
-use Rattle.mvcc_range.specs.Answer.{Read, Sees, IsNewest, IsRow, IsClear, IsUnknown, IsUncertain, GivesRows}
-use Rattle.range_log.specs.Facts.{Laid, HasIntent, Version, HasVersion}
-use Rattle.range_log.specs.declared.entries.Entry.{Entry}
-use Rattle.region_sql.specs.declared.first_forms.FirstStatement.{FirstStatement}
-use Rattle.region_sql.specs.declared.first_forms.FirstStatement.TheVariants.{Insert, SelectAll}
-use Rattle.row_locality.proofs.KeyLemmas.{same_key, in_point, only_in_point, in_primary_keys}
-use Rattle.row_locality.specs.Databases.{Database, IsValid, AreRising, AreInts, HasId, IsInt, row_with}
-use Rattle.row_locality.specs.IntRows.{int_key, int_value, int_pair, point_of, the_primary_keys}
+use Rattle.mvcc_range.specs.Answer.{Read, Sees, IsRow, GivesRows}
+use Rattle.range_log.specs.Facts.{Version}
+use Rattle.row_locality.proofs.KeyLemmas.{same_key}
+use Rattle.row_locality.specs.Databases.{AreInts, HasId, IsInt, row_with}
+use Rattle.row_locality.specs.IntRows.{int_key, int_value, int_pair}
 use Rattle.sim_cluster.proofs.LogLemmas.{IsHeld, version_of, no_intent, version_row, row_version, held_int, held_behind, one_row, held_row, row_held}
 use Rattle.sim_cluster.specs.Bounds.{IsBehind, IsAhead}
 use Rattle.sim_cluster.specs.Kept.{HeldRow, HasRowOf, AreRows, tidy_log}
-use Rattle.sql_eval.proofs.ExecutionLemmas.{held_id, id_held, tests_id, tests_no_id, is_change, changes, no_change, same_ids}
-use Rattle.sql_eval.specs.Agreement.{AgreesOn, Holds, HasPair, IsChange, pair}
+use Rattle.sql_eval.proofs.ExecutionLemmas.{held_id, id_held}
+use Rattle.sql_eval.specs.Agreement.{AgreesOn, Holds, pair}
 
 -- what isn't ahead of a clock is below each start ahead of it
 pub below_start : (k : Reading) (count : ℕ) (ts start : Ts) → IsBehind k count ts → IsAhead k start → IsBelow ts start

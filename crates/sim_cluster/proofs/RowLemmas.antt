@@ -1,4 +1,4 @@
-use Rattle.std.proofs.Common.{◌≡◌, ℕ, ℤ, Bool, true, false, cond, ◌||◌, List, [], ◌∷◌, ◌<ℤ◌, inl, inr, ⊎_elim, refl, sym, ap, ◌∙◌, subst, arith, int_cmp, int_eq, Ordering, Less, Equal, Greater, BTreeSet, true≢false}
+use Rattle.std.proofs.Common.{◌≡◌, ℤ, Bool, true, false, ◌||◌, List, [], ◌∷◌, ◌<ℤ◌, inl, inr, ⊎_elim, refl, sym, ◌∙◌, arith, int_cmp, int_eq, Ordering, Less, Equal, Greater, BTreeSet, true≢false}
 use Rattle.std.specs.Prelude.{◌⊎◌, ◌↔◌, IsTrue}
 use Rattle.std.specs.List.{list_any}
 use Rattle.std.specs.BTreeMap.{is_at}

@@ -1,5 +1,5 @@
-use Rattle.std.proofs.Common.{◌≡◌, ◌≢◌, ℕ, ℤ, Bool, true, false, cond, List, [], ◌∷◌, ◌++◌, ◌≤◌, ◌<◌, ◌+◌, inl, inr, ⊎_elim, refl, sym, ap, ap₂, ◌∙◌, subst, arith, length, reverse, append_assoc}
-use Rattle.std.specs.Prelude.{nat_lt, ◌⊎◌, Option, Some}
+use Rattle.std.proofs.Common.{◌≡◌, ◌≢◌, ℕ, Bool, true, false, cond, List, [], ◌∷◌, ◌++◌, ◌≤◌, ◌+◌, inl, inr, refl, sym, ap, ap₂, ◌∙◌, subst, arith, reverse, append_assoc}
+use Rattle.std.specs.Prelude.{nat_lt}
 use Rattle.std.proofs.lemmas.Bool.Decides.{nat_tests}
 use Rattle.mr_base.specs.Timestamps.{of_reading}
 use Rattle.mr_base.specs.declared.ids.TxnId.{TxnId}
@@ -8,12 +8,11 @@ use Rattle.mr_base.specs.declared.timestamps.Reading.{Reading}
 use Rattle.mr_base.specs.declared.timestamps.Ts.{Ts}
 use Rattle.region_sql.specs.FirstForms.{IsFirstText}
 use Rattle.region_sql.specs.declared.first_forms.FirstStatement.{FirstStatement}
-use Rattle.run_laws.specs.Begun.{next_start, reading_at}
+use Rattle.run_laws.specs.Begun.{next_start}
 use Rattle.run_laws.specs.Caused.{IsCaused}
 use Rattle.run_laws.specs.Lawful.{IsLawful}
 use Rattle.run_laws.specs.LinesRun.{LinesRun, NumberedEvent, IsNextLine, AreNotOf, IsNotOf, with_line}
-use Rattle.run_laws.specs.Runs.{IsRun, going_on, HasLine, IsLineOf}
-use Rattle.run_laws.specs.Steps.{numbers}
+use Rattle.run_laws.specs.Runs.{IsRun, HasLine, IsLineOf}
 use Rattle.run_laws.specs.Whole.{IsMade, AreMade}
 use Rattle.run_laws.specs.Words.{Beginning, Began, IsAnswered, greatest_start, later_reading, lines_of, log_of, the_node, the_range}
 use Rattle.scenario.specs.Names.{NamesOnly}
@@ -22,9 +21,9 @@ use Rattle.scenario.specs.declared.entries.JournalEntry.TheVariants as entry
 use Rattle.scenario.specs.declared.events.Event.{Event}
 use Rattle.scenario.specs.declared.events.Event.TheVariants as events
 use Rattle.sim_cluster.proofs.KnownLemmas.{IsNext, IsOfInts, later_next, line_journal, made_range}
-use Rattle.sim_cluster.proofs.LineLemmas.{TxnFacts, beginning_of, with_txn}
+use Rattle.sim_cluster.proofs.LineLemmas.{TxnFacts, beginning_of}
 use Rattle.sim_cluster.proofs.TxnLemmas.{line_caused, line_lawful}
-use Rattle.sim_cluster.specs.Bounds.{IsAhead, IsSound}
+use Rattle.sim_cluster.specs.Bounds.{IsAhead}
 use Rattle.sim_cluster.specs.Clock.{next_of, reading_of}
 use Rattle.sim_cluster.specs.Courses.{Goes}
 use Rattle.sim_cluster.specs.Kept.{IsKnown}

@@ -1,23 +1,20 @@
-use Rattle.std.proofs.Common.{◌≡◌, ◌≢◌, ℕ, ℤ, Bool, true, false, List, [], ◌∷◌, ◌++◌, ◌≤◌, ◌<◌, ◌+◌, inl, inr, ⊎_elim, refl, sym, ap, ap₂, ◌∙◌, subst, arith, length, reverse, append_assoc}
-use Rattle.std.specs.Prelude.{map, ◌⊎◌, ◌↔◌, Option, Some, Result, Ok, Err}
+use Rattle.std.proofs.Common.{◌≡◌, ℕ, ℤ, List, [], ◌∷◌, refl, sym, ap, ap₂, ◌∙◌, subst, length}
+use Rattle.std.specs.Prelude.{map, Result, Ok, Err}
 use Rattle.std.proofs.lemmas.List.{length-map}
-use Rattle.mr_base.specs.declared.settings.Kind.TheVariants as kinds
 use Rattle.mr_base.specs.declared.states.SqlState.{SqlState}
 use Rattle.mr_base.specs.declared.states.SqlState.TheVariants as states
 use Rattle.mr_base.specs.declared.timestamps.Reading.{Reading}
 use Rattle.region_sql.specs.declared.first_forms.FirstStatement.{FirstStatement}
 use Rattle.region_sql.specs.declared.first_forms.FirstStatement.TheVariants.{Insert, SelectAll}
-use Rattle.row_locality.specs.Databases.{Database, IsValid, AreRising, AreInts, HasId, IsInt, row_with}
+use Rattle.row_locality.specs.Databases.{Database, IsValid, AreInts, HasId, IsInt, row_with}
 use Rattle.row_locality.specs.IntRows.{point_of, the_primary_keys}
 use Rattle.run_laws.specs.Caused.{IsCaused}
 use Rattle.run_laws.specs.Determined.{Agrees, ArePuts, GivesPuts, GivesResults}
 use Rattle.run_laws.specs.Lawful.{IsLawful}
 use Rattle.run_laws.specs.LinesRun.{LinesRun, NumberedEvent}
-use Rattle.run_laws.specs.Words.{log_of, the_node, the_range}
+use Rattle.run_laws.specs.Words.{log_of, the_range}
 use Rattle.scenario.specs.declared.entries.JournalEntry.{JournalEntry}
-use Rattle.scenario.specs.declared.entries.JournalEntry.TheVariants as entry
 use Rattle.scenario.specs.declared.entries.Verb.TheVariants as verbs
-use Rattle.scenario.specs.declared.events.Event.TheVariants as events
 use Rattle.sim_cluster.proofs.CourseLemmas.{fault_ok, insert_ok, put_ok, refuse_caused, refuse_ok, resolve_ok, select_ok, state_ok, with_put, with_resolve, with_serve}
 use Rattle.sim_cluster.proofs.FactLemmas.{faults, insert_puts, inserts, selects}
 use Rattle.sim_cluster.proofs.KnownLemmas.{IsOfInts, line_journal}
@@ -30,7 +27,6 @@ use Rattle.sim_cluster.specs.declared.courses.Course.TheVariants as courses
 use Rattle.sim_cluster.specs.declared.range.Range.{Range}
 use Rattle.sim_cluster.specs.declared.transaction.Begun.{Begun}
 use Rattle.sql_eval.proofs.ExecutionLemmas.{no_change}
-use Rattle.sql_eval.specs.Agreement.{IsChange}
 use Rattle.sql_eval.specs.Execution.{Executed, exec, with_id}
 
 module _ (later : List NumberedEvent) (s : LinesRun) (k : Reading) (count line : ℕ) (b : Begun) (text : List ℕ) (range : Range) (journal : List JournalEntry) where

@@ -1,4 +1,4 @@
-use Rattle.std.specs.Prelude.{◌≡◌, ℕ, ◌+◌, ◌≤◌, if◌then◌else◌}
+use Rattle.std.specs.Prelude.{ℕ, ◌+◌, if◌then◌else◌}
 use Rattle.mr_base.specs.Timestamps.{ts_lt}
 use Rattle.mr_base.specs.declared.timestamps.Ts.{Ts}
 

@@ -14,7 +14,6 @@ use Rattle.row_locality.specs.IntRows.{int_key, int_value, point_of, the_primary
 use Rattle.scenario.specs.declared.entries.How.TheVariants as how
 use Rattle.scenario.specs.declared.entries.JournalEntry.{JournalEntry}
 use Rattle.scenario.specs.declared.entries.JournalEntry.TheVariants as entry
-use Rattle.scenario.specs.declared.entries.StatementResult.{StatementResult}
 use Rattle.scenario.specs.declared.entries.Verb.TheVariants as verb
 use Rattle.scenario.specs.declared.entries.Why.TheVariants as why
 use Rattle.sim_cluster.specs.declared.courses.Course.{Course}

@@ -1,4 +1,4 @@
-use Rattle.std.proofs.Common.{◌≡◌, refl, sym, ap, ap₂, ◌∙◌, subst, reverse, [], ℕ, ◌+◌}
+use Rattle.std.proofs.Common.{◌≡◌, refl, sym, ap, ap₂, ◌∙◌, subst, reverse, [], ◌+◌}
 use Rattle.std.specs.Prelude.{List, Some}
 use Rattle.mr_base.specs.declared.timestamps.Reading.{Reading}
 use Rattle.run_laws.specs.LinesRun.{with_line}
@@ -6,7 +6,7 @@ use Rattle.run_laws.specs.Runs.{IsRun}
 use Rattle.run_laws.specs.Words.{greatest_start}
 use Rattle.scenario.specs.declared.entries.JournalEntry.{JournalEntry}
 use Rattle.scenario.specs.declared.events.Event.TheVariants as events
-use Rattle.sim_cluster.proofs.BeginLemmas.{begin_journal, begun_journal, begin_run, begin_known}
+use Rattle.sim_cluster.proofs.BeginLemmas.{begun_journal, begin_run, begin_known}
 use Rattle.sim_cluster.specs.Clock.{reading_of}
 use Rattle.sim_cluster.specs.Kept.{IsKnown}
 use Rattle.sim_cluster.specs.declared.range.Range.{Range}

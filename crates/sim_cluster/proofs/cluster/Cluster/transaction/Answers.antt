@@ -1,4 +1,4 @@
-use Rattle.std.proofs.Common.{◌≡◌, ◌≢◌, ℕ, ℤ, pos, negsuc, Bool, true, cond, not, refl, sym, ap, ap₂, ◌∙◌, subst, reverse, [], ◌+◌, ◌++◌, ◌≤◌, arith, w64, List, SFits}
+use Rattle.std.proofs.Common.{◌≡◌, ◌≢◌, ℕ, ℤ, pos, negsuc, Bool, cond, not, sym, ap, ap₂, ◌∙◌, subst, reverse, [], ◌+◌, ◌++◌, ◌≤◌, arith, w64, List, SFits}
 use Rattle.mr_base.specs.Timestamps.{of_reading}
 use Rattle.mr_base.specs.declared.settings.Kind.TheVariants as kinds
 use Rattle.mr_base.specs.declared.settings.Settings.{Settings}
@@ -20,7 +20,6 @@ use Rattle.sim_cluster.specs.Clock.{next_of}
 use Rattle.sim_cluster.specs.Kept.{IsKnown}
 use Rattle.sim_cluster.specs.Steps.{line_steps}
 use Rattle.sim_cluster.specs.View.{View}
-use Rattle.sim_cluster.specs.declared.range.Range.{Range}
 use Rattle.sim_cluster.specs.declared.transaction.Begun.{Begun}
 use Rattle.sim_cluster.proofs.cluster.Cluster.transaction.Goals as goal
 
