@@ -1,5 +1,5 @@
 -- Which events the grammar gives as they stand: none of a transaction, of a statement or of a timeout.
-use Rattle.std.proofs.Common.{◌≡◌, ℕ, Bool, true, false, List, [], ◌∷◌, Some, None, refl, subst}
+use Rattle.std.proofs.Common.{◌≡◌, ℕ, Bool, true, false, List, [], ◌∷◌, Some, None, subst}
 use Rattle.std.specs.Prelude.{codes, Option, if◌then◌else◌}
 use Rattle.scenario.specs.declared.events.Event.{Event}
 use Rattle.scenario.specs.declared.events.Event.TheVariants as events

@@ -1,13 +1,12 @@
 -- What holds of the lines that are read follows from the faults that they don't have.
-use Rattle.std.proofs.Common.{◌≡◌, ℕ, ◌+◌, ◌<◌, ◌≤◌, Bool, true, false, not, List, length, get_or, Some, None, refl, sym, ap, subst, ◌∙◌, arith}
-use Rattle.std.specs.Prelude.{Option, Result, Ok, Err, All, Contains, ◌||◌, ◌==◌, nat_lt, nat_le, is_none, is_some, if◌then◌else◌, ok_or, unwrap_or}
+use Rattle.std.proofs.Common.{◌≡◌, ℕ, ◌+◌, ◌<◌, ◌≤◌, Bool, true, false, not, List, length, get_or, Some, None, refl, subst, arith}
+use Rattle.std.specs.Prelude.{Option, Result, Ok, Err, Contains, ◌||◌, ◌==◌, nat_lt, nat_le, is_none, is_some, if◌then◌else◌, ok_or, unwrap_or}
 use Rattle.std.specs.List.{list_any}
 use Rattle.std.proofs.lemmas.Bool.{ltb-false, leb-false, eqb-true, eqb-false}
 use Rattle.std.proofs.lemmas.Map.Views.{Contains-from_any}
 use Rattle.mr_base.specs.declared.ids.MsgId.{MsgId}
 use Rattle.mr_base.specs.declared.ids.NodeId.{NodeId}
 use Rattle.mr_base.specs.declared.ids.RangeId.{RangeId}
-use Rattle.mr_base.specs.declared.ids.TxnId.{TxnId}
 use Rattle.mr_base.specs.declared.settings.Settings.{Settings}
 use Rattle.mr_base.specs.declared.settings.Kind.{Kind}
 use Rattle.mr_base.specs.declared.settings.Kind.TheVariants as kinds
@@ -21,11 +20,11 @@ use Rattle.scenario.specs.declared.lines.Line.TheVariants as lines
 use Rattle.scenario.specs.declared.seen.Seen.{Seen}
 use Rattle.scenario.specs.declared.seen_nodes.SeenNode.{SeenNode}
 use Rattle.scenario.specs.Forms.{form_of, line_name}
-use Rattle.scenario.specs.Judgements.{awaits_nothing, begins_wrongly, has_long, is_long, is_long_kind, is_message, is_out_of_order, is_out_of_range, is_range, is_replica, is_running, is_running_node, is_stopped, is_stopped_node, lacks_replica, meets_wrong_state, misses_message, misses_node, misses_range, names_nothing, node_in, range_in, repeats_a_name, waits, waits_not}
+use Rattle.scenario.specs.Judgements.{awaits_nothing, begins_wrongly, has_long, is_long, is_long_kind, is_message, is_out_of_order, is_out_of_range, is_range, is_running, is_running_node, is_stopped, is_stopped_node, lacks_replica, meets_wrong_state, misses_message, misses_node, misses_range, names_nothing, repeats_a_name, waits_not}
 use Rattle.scenario.specs.Lines.{Told, after_event, after_form, counted, fault_of, line_of, named_form, read_form, reads, said, unless_fault, is_skipped}
 use Rattle.scenario.specs.NamePlaces.{place_of}
 use Rattle.scenario.specs.SeenNodes.{clock_limit, clocks_pass, find_node, node_passes, passes}
-use Rattle.scenario.specs.Sound.{AreSettings, IsAfter, IsAfterEvent, IsDown, IsDuration, IsLive, IsOpen, IsSoundLine, IsThere, IsTime, LinesAreSound, MayHappen, Runs, StaysBelow}
+use Rattle.scenario.specs.Sound.{AreSettings, IsAfter, IsAfterEvent, IsDown, IsLive, IsOpen, IsSoundLine, IsThere, IsTime, LinesAreSound, MayHappen, Runs, StaysBelow}
 use Rattle.scenario.specs.Words.{first_word, no_id}
 use Rattle.scenario.proofs.FormHeads.{IsOwnEvent, IsOwnForm, own_form_of}
 use Rattle.scenario.proofs.NodeLemmas.{none_passes}

@@ -1,10 +1,7 @@
 -- The forms of lines, each as what its words say. (This project's profile.)
-use Rattle.std.specs.Prelude.{◌≡◌, ℕ, Bool, true, false, nat_eq, if◌then◌else◌, List, [], ◌∷◌, drop, bytes_eq, codes, Option, Some, None}
+use Rattle.std.specs.Prelude.{ℕ, true, false, nat_eq, if◌then◌else◌, List, [], ◌∷◌, drop, bytes_eq, codes, Option, Some, None}
 use Rattle.std.specs.List.{starts_with}
 use Rattle.std.specs.Str.{is_utf8}
-use Rattle.mr_base.specs.declared.ids.NodeId.{NodeId}
-use Rattle.mr_base.specs.declared.ids.RangeId.{RangeId}
-use Rattle.mr_base.specs.declared.settings.Settings.{Settings}
 use Rattle.mr_base.specs.declared.settings.Kind.{Kind}
 use Rattle.mr_base.specs.declared.settings.Kind.TheVariants as kinds
 use Rattle.scenario.specs.declared.events.Event.TheVariants as events
@@ -12,7 +9,7 @@ use Rattle.scenario.specs.declared.forms.Form.{Form}
 use Rattle.scenario.specs.declared.forms.Form.TheVariants as forms
 use Rattle.scenario.specs.declared.forms.LineName.{LineName}
 use Rattle.scenario.specs.declared.forms.LineName.TheVariants as names
-use Rattle.scenario.specs.Words.{◌>>=◌, first_word, after_word, text_at, word_at, whole, number_at, node_at, range_at, message_at, place_at, txn_name_at, or_all_at}
+use Rattle.scenario.specs.Words.{◌>>=◌, after_word, text_at, word_at, whole, number_at, node_at, range_at, message_at, place_at, txn_name_at, or_all_at}
 
 -- The names of lines.
 unfoldable pub line_name : List ℕ → Option LineName

@@ -1,5 +1,5 @@
 -- The nodes of a scenario as its lines leave them. Node k is at place k - 1.
-use Rattle.std.specs.Prelude.{◌≡◌, ℕ, Bool, true, false, ◌+◌, ◌-◌, ◌==◌, nat_le, if◌then◌else◌, List, map, slice_get, slice_set, Option, Some, None}
+use Rattle.std.specs.Prelude.{ℕ, Bool, false, ◌+◌, ◌-◌, ◌==◌, nat_le, if◌then◌else◌, List, map, slice_get, slice_set, Option, Some, None}
 use Rattle.std.specs.List.{list_any}
 use Rattle.mr_base.specs.declared.ids.NodeId.{NodeId}
 use Rattle.scenario.specs.declared.seen_nodes.SeenNode.{SeenNode}

@@ -1,11 +1,10 @@
 //! Reading the lines of a scenario.
 
-ghost use Rattle.std.specs.Prelude.{◌≡◌, ◌↔◌, ◌≤◌, ◌<◌, [], ℕ, List, Ok, Err, false, length, IfOk, IfErr, OnErr, IfSome, IfNone, IsTrue, Contains};
+ghost use Rattle.std.specs.Prelude.{◌≡◌, ◌≤◌, ◌<◌, [], ℕ, Ok, Err, false, length, IfOk, IfErr, OnErr, IfSome, IfNone, Contains};
 ghost use Rattle.scenario.specs.Judgements.{is_out_of_range, repeats_a_name};
 ghost use Rattle.scenario.specs.Lines.{fault_of, IsRead, is_skipped, nothing_seen, reads, said, told_by};
 ghost use Rattle.scenario.specs.Sound.{LinesAreSound};
 ghost use Rattle.scenario.specs.Text.{name_of};
-ghost use Rattle.scenario.specs.Words.{Gives};
 
 use crate::forms::Form;
 use crate::grammar::{form_of, named};

@@ -1,6 +1,6 @@
 //! The nodes of a scenario as its lines leave them. Node k is at place k - 1.
 
-ghost use Rattle.std.specs.Prelude.{◌≡◌, ℕ, false, map, [], ◌∷◌, ◌++◌, length, List, OnOk, OnErr};
+ghost use Rattle.std.specs.Prelude.{◌≡◌, false, map, [], ◌∷◌, ◌++◌, length, List, OnOk, OnErr};
 ghost use Rattle.std.specs.List.{list_any};
 ghost use Rattle.scenario.specs.declared.seen_nodes.SeenNode.{SeenNode};
 ghost use Rattle.scenario.specs.SeenNodes.{clocks_pass, find_node, passes, restarted, ticked, ticked_by, with_node};

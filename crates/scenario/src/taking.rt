@@ -1,6 +1,6 @@
 //! What a line changes of what is seen, once nothing is wrong with it.
 
-ghost use Rattle.std.specs.Prelude.{◌≡◌, ◌<◌, ◌++◌, ◌∷◌, [], false, true, length, IfOk, OnOk, OnErr, List, None};
+ghost use Rattle.std.specs.Prelude.{◌≡◌, ◌<◌, ◌++◌, ◌∷◌, [], false, true, length, IfOk, OnOk, OnErr, None};
 ghost use Rattle.scenario.specs.Judgements.{is_out_of_range, is_wrong_tick, repeats_a_name, tick_in};
 ghost use Rattle.scenario.specs.NamePlaces.{place_of};
 ghost use Rattle.scenario.specs.Lines.{after_event, after_form, line_of, with_new_node, with_region};

@@ -1,8 +1,7 @@
-use Rattle.std.proofs.Common.{rules, arith, refl, sym, ◌≡◌, List, ℕ, ap, ◌∙◌}
-use Rattle.std.specs.Prelude.{codes, Some}
+use Rattle.std.proofs.Common.{rules, arith, refl, ◌≡◌}
+use Rattle.std.specs.Prelude.{codes}
 use Rattle.std.proofs.lemmas.Slice.Eq.{text_from_reads}
 use Rattle.scenario.specs.Forms.{line_name}
-use Rattle.scenario.specs.declared.forms.LineName.TheVariants as names
 use Rattle.scenario.proofs.grammar.line_name.Goals as goal
 
 pub returns-in-settle : goal.returns-in-settle

@@ -1,4 +1,4 @@
-use Rattle.std.proofs.Common.{◌<◌, length, arith}
+use Rattle.std.proofs.Common.{arith}
 use Rattle.scenario.specs.SeenNodes.{ticked}
 use Rattle.scenario.proofs.NodeLemmas.{front_grows}
 use Rattle.scenario.proofs.seen_nodes.tick_all.Goals as goal

@@ -1,8 +1,4 @@
 use Rattle.std.proofs.Common.{arith}
-use Rattle.std.proofs.lemmas.Grind.{common_steps}
-use Rattle.std.proofs.Common.{ℕ, true, false, refl, sym, ap, ◌≡◌, ◌∙◌, not}
-use Rattle.std.specs.Prelude.{nat_eq}
-use Rattle.scenario.specs.Words.{is_inside_word}
 use Rattle.scenario.proofs.WordLemmas.{run_is, blank_stops}
 use Rattle.scenario.proofs.words.word_len.Goals as goal
 

@@ -1,4 +1,4 @@
-use Rattle.std.proofs.Common.{None, Some, ap, sym, ◌∙◌, ◌≡◌}
+use Rattle.std.proofs.Common.{ap, sym, ◌∙◌}
 use Rattle.scenario.specs.declared.seen.Seen.{Seen}
 use Rattle.scenario.specs.NamePlaces.{place_of}
 use Rattle.scenario.proofs.PlaceLemmas.{found_place, no_place}
