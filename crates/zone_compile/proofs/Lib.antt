@@ -1,3 +1,4 @@
 pub mod ExampleFacts
 pub mod Forms
 pub mod JsonLemmas
+mod Formed

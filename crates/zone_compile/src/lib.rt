@@ -4,11 +4,13 @@
 
 mod compiled;
 mod config;
+mod forming;
 mod json_form;
 mod text_form;
 
 pub use compiled::compile;
 pub use config::ZoneConfig;
+pub use forming::is_form;
 pub use json_form::json;
 pub use text_form::text;
 

@@ -1,0 +1,9 @@
+use Rattle.std.proofs.Common.{ℕ, List, IsUtf8, arith}
+use Rattle.zone_compile.proofs.Formed.{onward}
+use Rattle.zone_compile.proofs.forming.are_texts.Goals as goal
+
+pub loop-count-preserved : goal.loop-count-preserved
+loop-count-preserved c = onward (λ (k : List ℕ × ℕ). IsUtf8 k.0) c.args.counts.now c.loop-count.count-index c.count-item.result c.loop-count-test.true c.count-item.is (c.is_text.ensures c.if-not-is_text.false) c.loop-count.invariant
+
+pub returns : goal.returns
+returns c = λ yes k d lt. c.loop-count.invariant k d (omega (arith, lt, c.loop-count-test.false))

@@ -1,0 +1,5 @@
+use Rattle.std.proofs.Common.{◌≡◌, ℕ, ◌<◌, List, IsUtf8, get_or}
+use Rattle.zone_compile.proofs.forming.are_texts.Given as goal
+
+abbrev pub invariant-loop-count : goal.invariant-loop-count
+invariant-loop-count l = (k : ℕ) (d : List ℕ × ℕ) → k < l.count-index → IsUtf8 (get_or l.counts k d).0
