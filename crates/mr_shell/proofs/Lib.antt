@@ -1,6 +1,7 @@
 pub mod ContentLemmas
 pub mod EndLemmas
 pub mod Exact
+pub mod Headline
 pub mod NextLine
 pub mod OneCut
 pub mod OneReading

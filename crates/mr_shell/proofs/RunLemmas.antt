@@ -7,8 +7,6 @@ use Rattle.std.proofs.Math.Seq.{drop-append_seam}
 use Rattle.std.specs.Io.KnownBytes.{append_known}
 use Rattle.mr_base.specs.declared.ids.TxnId.{TxnId}
 use Rattle.mr_io.proofs.Told.{append_known-append, append_known-nil}
-use Rattle.run_laws.proofs.SumOf.{serial}
-use Rattle.run_laws.proofs.VisibleLemmas.{visible}
 use Rattle.scenario.specs.EntryText.{entry_text}
 use Rattle.scenario.specs.FirstPath.{Reads}
 use Rattle.scenario.specs.Names.{NamesOnly}
@@ -24,7 +22,7 @@ use Rattle.scenario.proofs.NamesOnly.{NamesOnly-append, NamesOnly-reverse, Names
 use Rattle.sim_cluster.specs.Cluster.{GoesOn, IsOf, IsRunOf}
 use Rattle.sim_cluster.specs.View.{View}
 use Rattle.mr_base.specs.declared.settings.Settings.{Settings}
-use Rattle.mr_shell.specs.Run.{AreRun, RunsLine, ShowsAll, ShowsEntries, ShowsPart}
+use Rattle.mr_shell.specs.Run.{RunsLine, ShowsAll, ShowsEntries, ShowsPart}
 use Rattle.mr_shell.specs.Session.{Follows}
 use Rattle.run_laws.specs.LinesRun.{with_line}
 use Rattle.mr_shell.specs.Story.{Story, Tells, run_with}
@@ -118,25 +116,13 @@ fewer_entries was is old new e h k goes =
     sym (reverse-reverse is) ∙ ap (λ (l : List JournalEntry). reverse l) (k ∙ (goes.journal ∙ ap (λ (l : List JournalEntry). goes.fresh ++ l) (sym h))) ∙ reverse-append goes.fresh (reverse was) ∙ ap (λ (l : List JournalEntry). l ++ reverse goes.fresh) (reverse-reverse was) in
     omega (arith, ap (λ (l : List JournalEntry). length l) all, length-append was (reverse goes.fresh))
 
--- a cluster's run of lines is serial and visible
-are_run : (texts : List (List ℕ)) (story : Story) (cluster : View) → Tells texts story → IsRunOf story.run cluster → AreRun texts story cluster.journal
-are_run texts story cluster tells run =
-    record {
-      tells = tells;
-      cluster = cluster;
-      run = run;
-      entries = refl;
-      serial = serial story.run cluster.journal (run.run.lawful []);
-      visible = visible story.run cluster.journal (run.run.lawful []);
-    }
-
 -- a line, its story and the journal that it made
 pub runs_line : (text : List ℕ) (before : List (List ℕ)) (earlier story : Story) (old new : View) (line : Line) → IsRunOf earlier.run old → IsRunOf story.run new → Tells before earlier → Reads earlier.seen text line story.seen → story.run ≡ run_with earlier.run (length before + 1) line → RunsLine text before old.journal story new.journal
 runs_line text before earlier story old new line was ran tells read run =
     record {
       earlier = earlier;
-      without_line = are_run before earlier old tells was;
-      with_line = are_run (text ∷ before) story new (earlier, tells, line, read, run) ran;
+      without_line = record { tells = tells; cluster = old; run = was; entries = refl };
+      with_line = record { tells = (earlier, tells, line, read, run); cluster = new; run = ran; entries = refl };
     }
 
 -- writing stopped between two entries
@@ -167,4 +153,4 @@ shows_part text before earlier story settings old new start mid written e count 
 
 -- nothing of a line was run
 pub shows_all : (before : List (List ℕ)) (story : Story) (settings : Settings) (cluster : View) (start written : Option (List ℕ)) → Tells before story → Follows story settings cluster start written → ShowsAll before start cluster.journal written
-shows_all before story settings cluster start written tells f = (story, are_run before story cluster tells f.run, f.text)
+shows_all before story settings cluster start written tells f = (story, record { tells = tells; cluster = cluster; run = f.run; entries = refl }, f.text)

@@ -1,6 +1,4 @@
 use Rattle.std.specs.Prelude.{◌≡◌, ◌≢◌, ◌⊎◌, ℕ, ◌+◌, List, [], ◌∷◌, ◌++◌, Option, length, take, ◌≤◌, Some, None}
-use Rattle.run_laws.specs.Serial.{IsSerial}
-use Rattle.run_laws.specs.Visible.{IsVisible}
 use Rattle.scenario.specs.declared.entries.JournalEntry.{JournalEntry}
 use Rattle.sim_cluster.specs.Cluster.{IsRunOf}
 use Rattle.sim_cluster.specs.View.{View}
@@ -11,15 +9,12 @@ use Rattle.mr_shell.specs.Texts.{journal_text, last_line, Wrote}
 use Rattle.mr_shell.specs.declared.outcome.End.{End}
 use Rattle.mr_shell.specs.declared.outcome.End.TheVariants as ends
 
--- These lines, the newest first, were read without a fault, and this journal is a run of them on a cluster. It
--- is serial and visible.
+-- These lines, the newest first, were read without a fault, and this journal is a run of them on a cluster.
 pub record AreRun (lines : List (List ℕ)) (story : Story) (journal : List JournalEntry) : Type 0 where
   pub tells : Tells lines story
   pub cluster : View
   pub run : IsRunOf story.run cluster
   pub entries : cluster.journal ≡ journal
-  pub serial : IsSerial story.run journal
-  pub visible : IsVisible journal
 
 -- The text of a journal, by the names that its transactions have once all lines of a story were read.
 abbrev pub report_of : Story → List JournalEntry → List ℕ

@@ -1,18 +1,22 @@
 //! The call that the program makes.
 
-ghost use Rattle.std.specs.Prelude.{◌≡◌, ◌↔◌, ◌≤◌, ◌⊎◌, ℕ, [], take};
+ghost use Rattle.std.specs.Prelude.{◌≡◌, ◌↔◌, ◌≤◌, ◌⊎◌, ℕ, List, [], take};
 ghost use Rattle.mr_io.specs.Faults.{CountsFault};
 ghost use Rattle.mr_shell.specs.Ends.{IsStatus, EndsPieces, status_of};
-ghost use Rattle.mr_shell.specs.Run.{AfterTaking, EndsWith, EndsShort, HasEnded, IsFaultless, IsFaulty, IsTooLarge};
+ghost use Rattle.mr_shell.specs.Run.{AfterTaking, AreRun, EndsWith, EndsShort, HasEnded, IsFaultless, IsFaulty, IsTooLarge};
+ghost use Rattle.mr_shell.specs.Story.{Story};
 ghost use Rattle.mr_shell.specs.Texts.{IsTold, Says, Wrote, last_line, usage_line};
 ghost use Rattle.mr_shell.specs.Words.{IsRun};
 ghost use Rattle.mr_shell.specs.declared.outcome.End.{End};
+ghost use Rattle.run_laws.specs.Serial.{IsSerial};
+ghost use Rattle.run_laws.specs.Visible.{IsVisible};
 
 use crate::commands::{Command, command_of};
 use crate::outcome::{End, Outcome};
 use crate::pieces::run_source;
 use crate::session::Session;
 use mr_io::{Sink, Source, write_all};
+use run_laws::{lawful_is_serial, lawful_is_visible};
 use scenario::Journal;
 use std::alloc::Global;
 
@@ -55,10 +59,15 @@ pub fn top<S: Source, K: Sink>(
     ensures runs_whole { IsRun words.now → IsFaultless (S.left source.old) → ¬ CountsFault (S.faults source.old) (S.faults source.new) S.most_faults → ¬ CountsFault (K.faults sink.old) (K.faults sink.new) K.most_faults → (result.status ≡ 0) ⊎ (result.status ≡ 5) }
     ensures finds_fault { IsRun words.now → IsFaulty (S.left source.old) → ¬ CountsFault (S.faults source.old) (S.faults source.new) S.most_faults → ¬ CountsFault (K.faults sink.old) (K.faults sink.new) K.most_faults → (result.status ≡ 1) ⊎ (result.status ≡ 5) }
     ensures finds_size { IsRun words.now → IsTooLarge (S.left source.old) → ¬ CountsFault (S.faults source.old) (S.faults source.new) S.most_faults → ¬ CountsFault (K.faults sink.old) (K.faults sink.new) K.most_faults → (result.status ≡ 7) ⊎ (result.status ≡ 5) }
+    // Whatever lines the journal is a run of, for them it is serial; and it is visible.
+    ensures serial { (lines : List (List ℕ)) (story : Story) → AreRun lines story result.journal → IsSerial story.run result.journal }
+    ensures visible { (lines : List (List ℕ)) (story : Story) → AreRun lines story result.journal → IsVisible result.journal }
     // A read that failed was counted, and so was a write.
     ensures read_failed { result.status ≡ 3 → CountsFault (S.faults source.old) (S.faults source.new) S.most_faults }
     ensures write_failed { result.status ≡ 4 → CountsFault (K.faults sink.old) (K.faults sink.new) K.most_faults }
 {
+    lawful_is_serial();
+    lawful_is_visible();
     match command_of(words) {
         None => usage(alloc, sink),
         Some(Command::Run) => run(alloc, source, sink),
