@@ -1,4 +1,4 @@
-//! Reading the lines of a scenario.
+//! Reading the lines of the first path: one node and one table.
 
 ghost use Rattle.std.specs.Prelude.{◌≡◌, ◌↔◌, [], ℕ, List, IfOk, IfErr, OnErr, IfSome, IfNone, IsTrue, Contains};
 ghost use Rattle.scenario.specs.FirstPath.{Answers, HasNoLine, Reads, IsSkipped, IsTxnName, IsTxnLine, IsClockText, IsNodeLine, IsRead, IsTaken, the_standard_settings};
@@ -27,7 +27,7 @@ pub enum Expected {
     Transaction,
 }
 
-/// The lines of a scenario that were read so far, as far as the next one depends on them.
+/// The lines of the first path that were read so far, as far as the next one depends on them.
 #[derive(Drop)]
 pub struct FirstPath {
     alloc: Global,
@@ -136,7 +136,7 @@ fn is_used(names: &[Bytes], name: &[u8]) -> bool
 impl FirstPath {
     ghost use Rattle.scenario.specs.FirstSeen.{Seen};
 
-    /// A scenario of which nothing was read yet. With `zones_only` it is read for its ranges alone.
+    /// A first path of which nothing was read yet. With `zones_only` it is read for its ranges alone.
     pub fn new(alloc: Global, zones_only: bool) -> FirstPath
         ensures { result ≡ record { zones_only = zones_only; expected = expected.Cluster; names = [] } }
     {
