@@ -2,6 +2,7 @@
 use Rattle.std.proofs.Common.{◌≡◌, ℕ, zero, suc, ◌+◌, ◌<◌, true, false, List, [], ◌∷◌, length, get_or, Some, None, refl, sym, ap, ◌∙◌, arith}
 use Rattle.std.specs.Prelude.{Contains, slice_get, bytes_eq, unwrap_or}
 use Rattle.std.specs.List.{position_from}
+use Rattle.std.proofs.lemmas.Option.{get_or_from_slice_get}
 use Rattle.std.proofs.lemmas.Slice.Eq.{bytes_eq-Decides}
 use Rattle.scenario.specs.NamePlaces.{place_of}
 use Rattle.scenario.specs.Text.{name_of}
@@ -43,6 +44,10 @@ found_place names name i h =
     let at : r.0 ≡ i = omega (arith, r.1) in
     let get : slice_get names i ≡ Some name = ap (slice_get names) (sym at) ∙ r.3 in
     (omega (arith, r.1, r.2), ap (λ o. unwrap_or o []) get)
+
+-- a name whose place is found is there
+pub is_there : (names : List (List ℕ)) (name : List ℕ) (i : ℕ) → place_of names name ≡ Some i → Contains names name
+is_there names name i h = let r = found_from names name 0 i h in (r.0, r.2, get_or_from_slice_get names r.0 name name r.3)
 
 pub no_place : (names : List (List ℕ)) (name : List ℕ) → place_of names name ≡ None → ¬ Contains names name
 no_place names name h c = none_from names name 0 h c.0 c.1 c.2

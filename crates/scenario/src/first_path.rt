@@ -1,16 +1,17 @@
 //! Reading the lines of the first path: one node and one table.
 
-ghost use Rattle.std.specs.Prelude.{◌≡◌, ◌↔◌, [], ℕ, List, IfOk, IfErr, OnErr, IfSome, IfNone, IsTrue, Contains};
+ghost use Rattle.std.specs.Prelude.{◌≡◌, ◌↔◌, [], ℕ, List, None, false, IfOk, IfErr, OnErr, IfSome, IfNone, IsTrue, Contains};
 ghost use Rattle.scenario.specs.FirstPath.{Answers, HasNoLine, Reads, IsSkipped, IsTxnName, IsTxnLine, IsClockText, IsNodeLine, IsRead, IsTaken, the_standard_settings};
+ghost use Rattle.scenario.specs.NamePlaces.{place_of};
 ghost use Rattle.scenario.specs.Text.{name_of};
 ghost use Rattle.scenario.specs.declared.first_path.Expected.TheVariants as expected;
 
 use crate::events::Event;
 use crate::lines::{Line, LineFault};
+use crate::txn_names::TxnNames;
 use crate::world::World;
 use mr_base::{
-    Bytes, CloneIn, Kind, ListOf, Memory, NodeId, NodeInfo, Settings, TxnId, after_head,
-    round_blank,
+    Bytes, CloneIn, Kind, Memory, NodeId, NodeInfo, Settings, TxnId, after_head, round_blank,
 };
 use region_sql::first_statement;
 use std::alloc::Global;
@@ -33,7 +34,7 @@ pub struct FirstPath {
     alloc: Global,
     zones_only: bool,
     expected: Expected,
-    names: ListOf<Bytes>,
+    names: TxnNames,
 }
 
 impl Model for FirstPath {
@@ -127,10 +128,14 @@ fn is_taken(list: &[u8]) -> bool
 }
 
 /// Whether a name is among these.
-fn is_used(names: &[Bytes], name: &[u8]) -> bool
-    ensures { IsTrue result ↔ Contains names.now name.now }
+fn is_used(names: &TxnNames, name: &[u8]) -> bool
+    ensures used { IsTrue result ↔ Contains names.now name.now }
+    ensures absent { result ≡ false → place_of names.now name.now ≡ None }
 {
-    names.iter().any(|used| used.as_slice() == name)
+    match names.place(name) {
+        Some(_) => true,
+        None => false,
+    }
 }
 
 impl FirstPath {
@@ -144,7 +149,7 @@ impl FirstPath {
             alloc,
             zones_only,
             expected: Expected::Cluster,
-            names: ListOf::new(alloc),
+            names: TxnNames::new(alloc),
         }
     }
 
@@ -262,7 +267,7 @@ impl FirstPath {
         let Some((name, list)) = txn_line(line) else {
             return Err(LineFault::S(1));
         };
-        if is_used(self.names.as_slice(), name) {
+        if is_used(&self.names, name) {
             return Err(LineFault::S(1));
         }
         if !is_taken(list) {
@@ -273,7 +278,7 @@ impl FirstPath {
         let Ok(txn) = u32::try_from(self.names.len()) else {
             return Err(LineFault::Memory);
         };
-        self.names.push(name)?;
+        self.names.push(name, txn)?;
         Ok(Line::Event(Event::Txn {
             txn: TxnId(txn),
             gateway: NodeId(1),
