@@ -1,4 +1,4 @@
-use Rattle.std.specs.Prelude.{◌≡◌, ℕ, ℤ, pos, negsuc, ◌<◌, ◌^◌, ◌<ℤ◌, ◌⊎◌, ⊤, List, [], ◌∷◌, map}
+use Rattle.std.specs.Prelude.{◌≡◌, ℤ, pos, negsuc, ◌<◌, ◌^◌, ◌<ℤ◌, ◌⊎◌, ⊤, List, [], ◌∷◌, map}
 use Rattle.mr_base.specs.declared.rows.Datum.{Datum}
 use Rattle.mr_base.specs.declared.rows.Datum.TheVariants as datums
 use Rattle.mr_base.specs.declared.spans.Pair.{Pair}

@@ -4,9 +4,9 @@ use Rattle.std.specs.Ordering.{int_eq}
 use borrow.Author.Differences.{lt_T}
 use Rattle.std.proofs.lemmas.Bool.Decides.{Decides-int_eq}
 use Rattle.mr_base.specs.declared.spans.Pair.{Pair}
-use Rattle.row_locality.specs.Databases.{Database, AreRising, AreAbove, AreInts, IsInt, HasId, row_with, id_of, pairs_of}
+use Rattle.row_locality.specs.Databases.{Database, AreRising, AreAbove, HasId, row_with, pairs_of}
 use Rattle.row_locality.specs.IntRows.{int_key, int_value, int_pair}
-use Rattle.sql_eval.specs.Agreement.{HasPair, Holds, IsChange, pair}
+use Rattle.sql_eval.specs.Agreement.{HasPair, IsChange, pair}
 use Rattle.sql_eval.specs.Execution.{has_id, with_id}
 
 -- what is held is the pair of an id
