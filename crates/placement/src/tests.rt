@@ -91,7 +91,7 @@ fn no_regions(alloc: Global) -> ZoneConfig {
 }
 
 fn config(alloc: Global, kind: Kind, regions: &[u8], home: u8) -> Result<ZoneConfig, Memory> {
-    let others = (regions.len() as u32).saturating_sub(1);
+    let others = (regions.len().min(16) as u32).saturating_sub(1);
     let (goal, num_replicas, num_voters, at_home) = match kind {
         Kind::Alone => return Ok(no_regions(alloc)),
         Kind::Restricted => (Goal::Zone, 3, 3, 3),
