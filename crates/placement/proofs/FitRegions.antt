@@ -92,7 +92,7 @@ cond_fewer : (a b : Bool) → (a ≡ true → b ≡ true) → cond a 1 0 ≤ con
 cond_fewer true b h = rw (h refl) (omega arith)
 cond_fewer false b h = omega arith
 
-count_fewer : (p q : NodeInfo → Bool) (xs : List NodeInfo) → ((s : NodeInfo) → Has xs s → p s ≡ true → q s ≡ true) → count_by p xs ≤ count_by q xs
+pub count_fewer : (p q : NodeInfo → Bool) (xs : List NodeInfo) → ((s : NodeInfo) → Has xs s → p s ≡ true → q s ≡ true) → count_by p xs ≤ count_by q xs
 count_fewer p q [] h = omega arith
 count_fewer p q (x ∷ xs) h =
     let rest = count_fewer p q xs (λ s k. h s (inr k)) in let a = count_first p x xs in let b = count_first q x xs in

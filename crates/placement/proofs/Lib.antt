@@ -1,3 +1,4 @@
+mod Tested
 pub mod ChosenLemmas
 pub mod Fit
 pub mod FitRegions

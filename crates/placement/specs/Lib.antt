@@ -1,3 +1,4 @@
 pub mod Fitting
 pub mod Majority
 pub mod Placing
+pub mod Tests

@@ -2,15 +2,15 @@
 #![tactic(auto)]
 
 mod chosen;
+mod fitting;
 mod majority;
 mod placed;
 mod placement_types;
 
+pub use fitting::{fits, serve_for};
 pub use majority::keeps_majority;
 pub use placed::place;
 pub use placement_types::{PlaceRefusal, Placement};
 
-#[cfg(test)]
-mod plain;
 #[cfg(test)]
 mod tests;

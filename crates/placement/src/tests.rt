@@ -1,16 +1,14 @@
-//! Placements of the worked examples, and a plain search over all choices on many layouts.
+//! Placements of the worked examples, and `place` beside a search over all choices on many layouts.
 
-ghost use Rattle.std.specs.Prelude.{◌≡◌, length, IfOk};
-ghost use Rattle.zone_compile.specs.Configuration.{without_regions};
+ghost use Rattle.zone_compile.specs.Configuration.{HasForm};
+ghost use Rattle.placement.specs.Fitting.{ServeFor};
 
-use crate::placed::chosen;
-use crate::plain::{OTHER, Site, VOTER, Wanted, fits, some_choice_fits};
-use crate::{PlaceRefusal, place};
+use super::*;
 use mr_base::{Bytes, ListOf, Memory, NodeId, NodeInfo};
 use region_sql::Goal;
 use std::alloc::Global;
 use std::test::Fail;
-use zone_compile::ZoneConfig;
+use zone_compile::{ZoneConfig, is_form};
 
 /// Numbers that look drawn.
 #[derive(Clone, Copy)]
@@ -26,18 +24,15 @@ impl Draws {
     }
 }
 
-/// Three to seven nodes in one to six regions and three zones.
+/// The region and the zone of a node, as numbers.
+type Site = (u8, u8);
+
+/// Three to seven nodes in one to six regions of three zones.
 fn layout(alloc: Global, draws: &mut Draws) -> Result<Vec<Site>, Memory> {
     let mut sites = Vec::new(alloc);
     let regions = 1 + draws.next() % 6;
     for _ in 0..3 + draws.next() % 5 {
-        let region = (draws.next() % regions) as u8;
-        let zone = (draws.next() % 3) as u8;
-        sites.push(Site {
-            region,
-            zone,
-            role: 0,
-        })?;
+        sites.push(((draws.next() % regions) as u8, (draws.next() % 3) as u8))?;
     }
     Ok(sites)
 }
@@ -46,7 +41,7 @@ fn layout(alloc: Global, draws: &mut Draws) -> Result<Vec<Site>, Memory> {
 fn regions_of(alloc: Global, sites: &[Site], draws: &mut Draws) -> Result<Vec<u8>, Memory> {
     let mut regions = Vec::new(alloc);
     for region in 0..6 {
-        if sites.iter().any(|s| s.region == region) {
+        if sites.iter().any(|s| s.0 == region) {
             regions.push(region)?;
         }
     }
@@ -56,182 +51,34 @@ fn regions_of(alloc: Global, sites: &[Site], draws: &mut Draws) -> Result<Vec<u8
     Ok(regions)
 }
 
-fn config(alloc: Global, w: &Wanted, regions: &[u8]) -> Result<ZoneConfig, Memory> {
-    let mut constraints = ListOf::new(alloc);
-    for region in regions {
-        constraints.push((Bytes::from_slice(alloc, &[*region])?, 1))?;
-    }
-    Ok(ZoneConfig {
-        num_replicas: 0,
-        num_voters: 0,
-        constraints,
-        voter_constraints: ListOf::new(alloc),
-        lease: Some(Bytes::from_slice(alloc, &[w.home])?),
-        global_reads: false,
-        goal: Some(w.goal),
-    })
+fn name(alloc: Global, number: u8) -> Result<Bytes, Memory> {
+    Bytes::from_slice(alloc, &[b'a'.saturating_add(number)])
 }
 
-fn nodes(alloc: Global, sites: &[Site]) -> Result<Vec<NodeInfo>, Memory> {
-    let mut nodes = Vec::new(alloc);
-    let mut id = 0u32;
-    for site in sites {
-        id = id.saturating_add(1);
-        nodes.push(NodeInfo {
-            id: NodeId(id),
-            region: Bytes::from_slice(alloc, &[site.region])?,
-            zone: Bytes::from_slice(alloc, &[site.zone])?,
-        })?;
-    }
-    Ok(nodes)
+/// What a range is to survive, and where its replicas stand.
+#[derive(Clone, Copy)]
+enum Kind {
+    /// In a database without regions
+    Alone,
+    Zone,
+    /// The loss of a zone, in a restricted database
+    Restricted,
+    Region,
 }
 
-/// Gives the sites the roles of a placement.
-fn mark(sites: &mut [Site], ids: &[NodeId], role: u8) {
-    let mut id = 0u32;
-    for site in sites.iter_mut() {
-        id = id.saturating_add(1);
-        if ids.contains(&NodeId(id)) {
-            site.role = role;
+impl Kind {
+    fn drawn(draws: &mut Draws, regions: usize) -> Kind {
+        match draws.next() % 8 {
+            0 => Kind::Alone,
+            1 => Kind::Restricted,
+            2 | 3 => Kind::Zone,
+            _ if regions >= 3 => Kind::Region,
+            _ => Kind::Zone,
         }
     }
 }
 
-/// Whether `chosen` agrees with the search: 0 where it doesn't, else what it answered.
-fn agrees(alloc: Global, w: &Wanted, regions: &[u8], sites: &mut [Site]) -> Result<u32, Memory> {
-    let c = config(alloc, w, regions)?;
-    let nodes = nodes(alloc, sites)?;
-    let there_is_one = some_choice_fits(w, regions, sites);
-    match chosen(alloc, &c, nodes.as_slice()) {
-        Ok(p) => {
-            for site in sites.iter_mut() {
-                site.role = 0;
-            }
-            mark(sites, p.others.as_slice(), OTHER);
-            mark(sites, p.voters.as_slice(), VOTER);
-            let counted = p.voters.len() == w.voters;
-            Ok(if there_is_one && counted && fits(w, regions, sites) {
-                1
-            } else {
-                0
-            })
-        }
-        Err(PlaceRefusal::Unplaceable { wanted, .. }) => Ok(if there_is_one { 0 } else { wanted }),
-        Err(PlaceRefusal::Memory) => Err(Memory),
-    }
-}
-
-#[test]
-fn place_agrees_with_the_search(rt: HostRuntime) -> Result<(), Fail> {
-    let alloc = rt.alloc();
-    let mut draws = Draws(7);
-    let mut seen = [false; 6];
-    for _ in 0..400 {
-        let mut sites = layout(alloc, &mut draws)?;
-        let all = regions_of(alloc, sites.as_slice(), &mut draws)?;
-        let place = draws.next() as usize % 6;
-        let Some(home) = all.as_slice().get(place) else {
-            continue;
-        };
-        let w = Wanted::drawn(*home, all.len(), draws.next());
-        let regions: &[u8] = if w.is_restricted { &[] } else { all.as_slice() };
-        for _ in 0..2 {
-            let answer = agrees(alloc, &w, regions, sites.as_mut_slice())?;
-            assert!(rt; answer > 0);
-            if let Some(flag) = seen.get_mut(answer as usize) {
-                *flag = true;
-            }
-            sites.reverse();
-        }
-    }
-    assert!(rt; seen[1] && seen[2] && seen[3] && seen[5]);
-    Ok(())
-}
-
-/// Sites in regions 0, 1, .. with their zones.
-fn sites(alloc: Global, places: &[(u8, u8)]) -> Result<Vec<Site>, Memory> {
-    let mut sites = Vec::new(alloc);
-    for (region, zone) in places {
-        sites.push(Site {
-            region: *region,
-            zone: *zone,
-            role: 0,
-        })?;
-    }
-    Ok(sites)
-}
-
-/// Three regions of three zones each.
-const NINE: [(u8, u8); 9] = [
-    (0, 0),
-    (0, 1),
-    (0, 2),
-    (1, 0),
-    (1, 1),
-    (1, 2),
-    (2, 0),
-    (2, 1),
-    (2, 2),
-];
-
-#[test]
-fn worked_examples(rt: HostRuntime) -> Result<(), Fail> {
-    let alloc = rt.alloc();
-    let cases: [(Goal, &[u8], &[u32], &[u32]); 3] = [
-        (Goal::Zone, &[0, 1, 2], &[1, 2, 3], &[4, 7]),
-        (Goal::Region, &[0, 1, 2], &[1, 2, 4, 7, 5], &[]),
-        (Goal::Zone, &[], &[1, 2, 3], &[]),
-    ];
-    let nine = sites(alloc, &NINE)?;
-    let nodes = nodes(alloc, nine.as_slice())?;
-    for (goal, regions, voters, others) in cases {
-        let mut w = Wanted::drawn(0, 1, 0);
-        w.goal = goal;
-        let c = config(alloc, &w, regions)?;
-        let Ok(p) = chosen(alloc, &c, nodes.as_slice()) else {
-            return Err(Memory.into());
-        };
-        assert!(rt;
-            p.voters
-                .as_slice()
-                .iter()
-                .map(|n| n.0)
-                .eq(voters.iter().copied())
-        );
-        assert!(rt;
-            p.others
-                .as_slice()
-                .iter()
-                .map(|n| n.0)
-                .eq(others.iter().copied())
-        );
-    }
-    Ok(())
-}
-
-#[test]
-fn two_zones_are_too_few(rt: HostRuntime) -> Result<(), Fail> {
-    let alloc = rt.alloc();
-    let three = sites(alloc, &[(0, 0), (0, 1), (0, 1)])?;
-    let nodes = nodes(alloc, three.as_slice())?;
-    let c = config(alloc, &Wanted::drawn(0, 1, 0), &[0])?;
-    let refused = chosen(alloc, &c, nodes.as_slice());
-    assert!(rt;
-        matches!(
-            refused,
-            Err(PlaceRefusal::Unplaceable {
-                wanted: 3,
-                found: 2,
-                ..
-            })
-        )
-    );
-    Ok(())
-}
-
-fn no_regions(alloc: Global) -> ZoneConfig
-    ensures { result ≡ without_regions }
-{
+fn no_regions(alloc: Global) -> ZoneConfig {
     ZoneConfig {
         num_replicas: 1,
         num_voters: 1,
@@ -243,26 +90,226 @@ fn no_regions(alloc: Global) -> ZoneConfig
     }
 }
 
-fn one_node(alloc: Global) -> Result<Vec<NodeInfo>, Memory>
-    ensures { IfOk result (λ nodes. length nodes.items ≡ 1) }
-{
+fn config(alloc: Global, kind: Kind, regions: &[u8], home: u8) -> Result<ZoneConfig, Memory> {
+    let others = (regions.len().min(16) as u32).saturating_sub(1);
+    let (goal, num_replicas, num_voters, at_home) = match kind {
+        Kind::Alone => return Ok(no_regions(alloc)),
+        Kind::Restricted => (Goal::Zone, 3, 3, 3),
+        Kind::Zone => (Goal::Zone, others.saturating_add(3), 3, 3),
+        Kind::Region => (Goal::Region, others.saturating_add(2).max(5), 5, 2),
+    };
+    let mut constraints = ListOf::new(alloc);
+    if !matches!(kind, Kind::Restricted) {
+        for region in regions {
+            constraints.push((name(alloc, *region)?, 1))?;
+        }
+    }
+    let mut voter_constraints = ListOf::new(alloc);
+    voter_constraints.push((name(alloc, home)?, at_home))?;
+    Ok(ZoneConfig {
+        num_replicas,
+        num_voters,
+        constraints,
+        voter_constraints,
+        lease: Some(name(alloc, home)?),
+        global_reads: false,
+        goal: Some(goal),
+    })
+}
+
+fn nodes(alloc: Global, sites: &[Site]) -> Result<Vec<NodeInfo>, Memory> {
     let mut nodes = Vec::new(alloc);
-    nodes.push(NodeInfo {
-        id: NodeId(1),
-        region: Bytes::from_slice(alloc, b"us-east")?,
-        zone: Bytes::from_slice(alloc, b"a")?,
-    })?;
+    let mut id = 0u32;
+    for (region, zone) in sites {
+        id = id.saturating_add(1);
+        nodes.push(NodeInfo {
+            id: NodeId(id),
+            region: name(alloc, *region)?,
+            zone: name(alloc, *zone)?,
+        })?;
+    }
     Ok(nodes)
 }
 
+/// What a node is in a choice: nothing, a voter or another replica.
+fn role(choice: u32, place: usize) -> u32 {
+    let mut rest = choice;
+    for _ in 0..place {
+        rest /= 3;
+    }
+    rest % 3
+}
+
+/// The nodes with a role in a choice, those of the home region first.
+fn chosen(
+    alloc: Global,
+    c: &ZoneConfig,
+    nodes: &[NodeInfo],
+    choice: u32,
+    wanted: u32,
+) -> Result<ListOf<NodeId>, Memory> {
+    let mut ids = ListOf::new(alloc);
+    for at_home in [true, false] {
+        for (place, node) in nodes.iter().enumerate() {
+            let is_home = match &c.lease {
+                Some(home) => node.region == *home,
+                None => false,
+            };
+            if is_home == at_home && role(choice, place) == wanted {
+                ids.push(node.id)?;
+            }
+        }
+    }
+    Ok(ids)
+}
+
+/// How many choices there are.
+fn count_choices(nodes: &[NodeInfo]) -> u32 {
+    let mut choices = 1u32;
+    for _ in nodes {
+        choices = choices.saturating_mul(3);
+    }
+    choices
+}
+
+/// Whether some choice of voters and other replicas fits.
+fn some_choice_fits(alloc: Global, c: &ZoneConfig, nodes: &[NodeInfo]) -> Result<bool, Memory>
+    requires form { HasForm c.now }
+    requires nodes { ServeFor c.now nodes.now }
+{
+    for choice in 0..count_choices(nodes) {
+        let voters = chosen(alloc, c, nodes, choice, 1)?;
+        if voters.len() == c.num_voters as usize {
+            let others = chosen(alloc, c, nodes, choice, 2)?;
+            let p = Placement { voters, others };
+            if fits(alloc, c, nodes, &p)? {
+                return Ok(true);
+            }
+        }
+    }
+    Ok(false)
+}
+
+/// Which answer `place` gave, where it agrees with the search: how many it placed by each goal, and how
+/// many it refused for each reason.
+fn agrees(alloc: Global, c: &ZoneConfig, nodes: &[NodeInfo]) -> Result<Option<usize>, Memory>
+    requires form { HasForm c.now }
+    requires nodes { ServeFor c.now nodes.now }
+{
+    match place(alloc, c, nodes) {
+        Ok(p) => {
+            if !fits(alloc, c, nodes, &p)? {
+                return Ok(None);
+            }
+            Ok(Some(branch(c, &p)))
+        }
+        Err(PlaceRefusal::Unplaceable { wanted, .. }) => {
+            if some_choice_fits(alloc, c, nodes)? {
+                return Ok(None);
+            }
+            Ok(Some(if wanted == 2 {
+                5
+            } else if wanted == 3 {
+                6
+            } else {
+                7
+            }))
+        }
+        Err(PlaceRefusal::Memory) => Err(Memory),
+    }
+}
+
+/// By which branch a placement was made.
+fn branch(c: &ZoneConfig, p: &Placement) -> usize {
+    match c.goal {
+        None => 0,
+        Some(Goal::Zone) => { if c.constraints.is_empty() { 1 } else { 2 } }
+        Some(Goal::Region) => {
+            // of three regions one gives a second voter
+            if c.constraints.len() == 3 { 3 } else { 4 }
+        }
+    }
+}
+
 #[test]
-fn a_lone_node_is_placed(rt: HostRuntime) -> Result<(), Fail> {
+fn place_agrees_with_the_search(rt: HostRuntime) -> Result<(), Fail> {
     let alloc = rt.alloc();
-    let c = no_regions(alloc);
-    let nodes = one_node(alloc)?;
-    let Ok(p) = place(alloc, &c, nodes.as_slice()) else {
-        return Err(Memory.into());
+    let mut draws = Draws(7);
+    let mut met = [0u32; 8];
+    for _ in 0..400 {
+        let mut sites = layout(alloc, &mut draws)?;
+        let regions = regions_of(alloc, sites.as_slice(), &mut draws)?;
+        let place = draws.next() as usize % 6;
+        let Some(home) = regions.as_slice().get(place) else {
+            continue;
+        };
+        let kind = Kind::drawn(&mut draws, regions.len());
+        let c = config(alloc, kind, regions.as_slice(), *home)?;
+        for _ in 0..2 {
+            let nodes = nodes(alloc, sites.as_slice())?;
+            assert!(rt; is_form(&c));
+            assert!(rt; serve_for(&c, nodes.as_slice()));
+            let answer = agrees(alloc, &c, nodes.as_slice())?;
+            assert!(rt; answer.is_some());
+            if let Some(count) = met.get_mut(answer.unwrap_or(0)) {
+                *count = count.saturating_add(1);
+            }
+            sites.reverse();
+        }
+    }
+    // each way of placing and each refusal was met
+    assert!(rt; met.iter().all(|count| *count > 0));
+    Ok(())
+}
+
+/// Three regions of three zones each.
+const NINE: [Site; 9] = [
+    (0, 0),
+    (0, 1),
+    (0, 2),
+    (1, 0),
+    (1, 1),
+    (1, 2),
+    (2, 0),
+    (2, 1),
+    (2, 2),
+];
+
+/// Whether these nodes are placed so.
+fn is_placed(
+    alloc: Global,
+    c: &ZoneConfig,
+    nodes: &[NodeInfo],
+    voters: &[u32],
+    others: &[u32],
+) -> Result<bool, Memory> {
+    if !is_form(c) {
+        return Ok(false);
+    }
+    if !serve_for(c, nodes) {
+        return Ok(false);
+    }
+    let Ok(p) = place(alloc, c, nodes) else {
+        return Ok(false);
     };
-    assert!(rt; p.voters.len() == 1);
+    let at = p.voters.as_slice().iter().map(|n| n.0);
+    let beside = p.others.as_slice().iter().map(|n| n.0);
+    Ok(at.eq(voters.iter().copied()) && beside.eq(others.iter().copied()))
+}
+
+#[test]
+fn worked_examples(rt: HostRuntime) -> Result<(), Fail> {
+    let alloc = rt.alloc();
+    let nodes = nodes(alloc, &NINE)?;
+    let cases: [(Kind, &[u32], &[u32]); 4] = [
+        (Kind::Zone, &[1, 2, 3], &[4, 7]),
+        (Kind::Region, &[1, 2, 4, 7, 5], &[]),
+        (Kind::Restricted, &[1, 2, 3], &[]),
+        (Kind::Alone, &[1], &[]),
+    ];
+    for (kind, voters, others) in cases {
+        let c = config(alloc, kind, &[0, 1, 2], 0)?;
+        assert!(rt; is_placed(alloc, &c, nodes.as_slice(), voters, others)?);
+    }
     Ok(())
 }
