@@ -2,6 +2,7 @@
 
 mod answers;
 mod forms;
+mod journals;
 mod limits;
 mod messages;
 mod reader;

@@ -1,0 +1,14 @@
+//! A journal that grows.
+
+use crate::{Journal, JournalEntry};
+use mr_base::MsgId;
+use std::test::Fail;
+
+#[test]
+fn journals_grow(rt: HostRuntime) -> Result<(), Fail> {
+    let alloc = rt.alloc();
+    let mut journal = Journal::new(alloc);
+    journal.push(JournalEntry::Event { line: 5 })?;
+    journal.push(JournalEntry::Taken { id: MsgId(1) })?;
+    Ok(())
+}
