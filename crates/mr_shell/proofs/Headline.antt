@@ -1,4 +1,5 @@
-use Rattle.std.proofs.Common.{List, [], subst, ℕ}
+use Rattle.std.proofs.Common.{List, [], subst, ℕ, ◌<◌}
+use Rattle.run_laws.specs.Answered.{AreAnswered}
 use Rattle.run_laws.specs.Laws.{LawfulIsSerial, LawfulIsVisible}
 use Rattle.run_laws.specs.Serial.{IsSerial}
 use Rattle.run_laws.specs.Visible.{IsVisible}
@@ -12,3 +13,6 @@ serial_run law journal lines story r = subst (λ (j : List JournalEntry). IsSeri
 
 pub visible_run : LawfulIsVisible → (journal : List JournalEntry) (lines : List (List ℕ)) (story : Story) → AreRun lines story journal → IsVisible journal
 visible_run law journal lines story r = subst (λ (j : List JournalEntry). IsVisible j) r.entries (law story.run r.cluster.journal (r.run.run.lawful []))
+
+pub answered_run : (journal : List JournalEntry) (lines : List (List ℕ)) (story : Story) → AreRun lines story journal → story.run.settings.max_offset < story.run.settings.lease → AreAnswered journal
+answered_run journal lines story r short = subst (λ (j : List JournalEntry). AreAnswered j) r.entries (r.run.run.answered short)

@@ -1,6 +1,6 @@
 //! The call that the program makes.
 
-ghost use Rattle.std.specs.Prelude.{◌≡◌, ◌↔◌, ◌≤◌, ◌⊎◌, ℕ, List, [], take};
+ghost use Rattle.std.specs.Prelude.{◌≡◌, ◌↔◌, ◌≤◌, ◌<◌, ◌⊎◌, ℕ, List, [], take};
 ghost use Rattle.mr_io.specs.Faults.{CountsFault};
 ghost use Rattle.mr_shell.specs.Ends.{IsStatus, EndsPieces, status_of};
 ghost use Rattle.mr_shell.specs.Run.{AfterTaking, AreRun, EndsWith, EndsShort, HasEnded, IsFaultless, IsFaulty, IsTooLarge};
@@ -8,6 +8,7 @@ ghost use Rattle.mr_shell.specs.Story.{Story};
 ghost use Rattle.mr_shell.specs.Texts.{IsTold, Says, Wrote, last_line, usage_line};
 ghost use Rattle.mr_shell.specs.Words.{IsRun};
 ghost use Rattle.mr_shell.specs.declared.outcome.End.{End};
+ghost use Rattle.run_laws.specs.Answered.{AreAnswered};
 ghost use Rattle.run_laws.specs.Serial.{IsSerial};
 ghost use Rattle.run_laws.specs.Visible.{IsVisible};
 
@@ -62,6 +63,8 @@ pub fn top<S: Source, K: Sink>(
     // Whatever lines the journal is a run of, for them it is serial; and it is visible.
     ensures serial { (lines : List (List ℕ)) (story : Story) → AreRun lines story result.journal → IsSerial story.run result.journal }
     ensures visible { (lines : List (List ℕ)) (story : Story) → AreRun lines story result.journal → IsVisible result.journal }
+    // Where a lease lasts longer than the offset of clocks, each transaction has its rows or its serial fault.
+    ensures answered { (lines : List (List ℕ)) (story : Story) → AreRun lines story result.journal → story.run.settings.max_offset < story.run.settings.lease → AreAnswered result.journal }
     // A read that failed was counted, and so was a write.
     ensures read_failed { result.status ≡ 3 → CountsFault (S.faults source.old) (S.faults source.new) S.most_faults }
     ensures write_failed { result.status ≡ 4 → CountsFault (K.faults sink.old) (K.faults sink.new) K.most_faults }

@@ -1,3 +1,4 @@
+pub mod Answered
 pub mod Appended
 pub mod Begun
 pub mod Caused

@@ -1,9 +1,10 @@
-use Rattle.std.specs.Prelude.{◌≡◌, ◌⊎◌, List, [], ◌∷◌, ◌++◌}
+use Rattle.std.specs.Prelude.{◌≡◌, ◌⊎◌, ◌<◌, List, [], ◌∷◌, ◌++◌}
 use Rattle.mr_base.specs.declared.ids.TxnId.{TxnId}
 use Rattle.scenario.specs.Names.{NamesOnly}
 use Rattle.scenario.specs.declared.entries.JournalEntry.{JournalEntry}
 use Rattle.scenario.specs.declared.events.Event.{Event}
 use Rattle.scenario.specs.declared.events.Event.TheVariants as events
+use Rattle.run_laws.specs.Answered.{AreAnswered}
 use Rattle.run_laws.specs.Caused.{IsCaused}
 use Rattle.run_laws.specs.Lawful.{IsLawful}
 use Rattle.run_laws.specs.LinesRun.{LinesRun, NumberedEvent}
@@ -30,4 +31,5 @@ pub record IsRun (s : LinesRun) (journal : List JournalEntry) : Type 0 where
   pub caused : (later : List NumberedEvent) → IsCaused (going_on later s) journal
   pub whole : IsWhole s journal
   pub settled : IsSettled journal
+  pub answered : s.settings.max_offset < s.settings.lease → AreAnswered journal
   pub names : NamesOnly (HasLine s.events) journal

@@ -59,6 +59,7 @@ begin_run s line x run e =
       caused = λ later. (tt, (tt, tt));
       whole = record { lines = ap (λ l. line ∷ l) run.whole.lines; made = ((λ q. cc), none_made (begin_journal line x) s.events run.whole.lines) };
       settled = λ b h. absurd h;
+      answered = λ w b h. absurd h;
       names = (λ t h. absurd h, (λ t h. absurd h, tt));
     }
 

@@ -4,6 +4,7 @@ pub mod CourseLemmas
 pub mod FactLemmas
 pub mod JournalLemmas
 pub mod KnownLemmas
+pub mod LastingLemmas
 pub mod LineLemmas
 pub mod LogLemmas
 pub mod ReadLemmas

@@ -1,4 +1,4 @@
-use Rattle.std.proofs.Common.{◌≡◌, ◌≢◌, ℕ, Bool, true, false, cond, List, [], ◌∷◌, ◌++◌, ◌≤◌, ◌+◌, inl, inr, refl, sym, ap, ap₂, ◌∙◌, subst, arith, reverse, append_assoc}
+use Rattle.std.proofs.Common.{◌≡◌, ◌≢◌, ◌<◌, ℕ, Bool, true, false, cond, List, [], ◌∷◌, ◌++◌, ◌≤◌, ◌+◌, inl, inr, refl, sym, ap, ap₂, ◌∙◌, subst, arith, reverse, append_assoc}
 use Rattle.std.specs.Prelude.{nat_lt}
 use Rattle.std.proofs.lemmas.Bool.Decides.{nat_tests}
 use Rattle.mr_base.specs.Timestamps.{of_reading}
@@ -8,6 +8,7 @@ use Rattle.mr_base.specs.declared.timestamps.Reading.{Reading}
 use Rattle.mr_base.specs.declared.timestamps.Ts.{Ts}
 use Rattle.region_sql.specs.FirstForms.{IsFirstText}
 use Rattle.region_sql.specs.declared.first_forms.FirstStatement.{FirstStatement}
+use Rattle.run_laws.specs.Answered.{HasAnswer}
 use Rattle.run_laws.specs.Begun.{next_start}
 use Rattle.run_laws.specs.Caused.{IsCaused}
 use Rattle.run_laws.specs.Lawful.{IsLawful}
@@ -125,6 +126,15 @@ module _ (line : ℕ) (b : Begun) (range : Range) (journal : List JournalEntry) 
   settled_line courses.Selects f g (inl e) = inl (ap (λ (y : Beginning). y.txn) e)
   settled_line courses.Selects f g (inr h) = inr (f g h)
 
+  answered_line : (course : Course) → course ≢ courses.Unserved → ((g : Beginning) → Began g journal → HasAnswer g.txn journal) → (g : Beginning) → Began g (line_journal line b course range journal) → HasAnswer g.txn (line_journal line b course range journal)
+  answered_line courses.Unserved n f g h = absurd (n refl)
+  answered_line (courses.Duplicate m) n f g (inl e) = inl (ap (λ (y : Beginning). y.txn) e)
+  answered_line (courses.Duplicate m) n f g (inr h) = inr (f g h)
+  answered_line (courses.Inserts m) n f g (inl e) = inl (ap (λ (y : Beginning). y.txn) e)
+  answered_line (courses.Inserts m) n f g (inr h) = inr (f g h)
+  answered_line courses.Selects n f g (inl e) = inl (ap (λ (y : Beginning). y.txn) e)
+  answered_line courses.Selects n f g (inr h) = inr (f g h)
+
   -- a line names its own transaction alone
   names_line : (course : Course) (P : TxnId → Type 0) → ((t : TxnId) → t ≡ b.txn → P t) → NamesOnly P journal → NamesOnly P (line_journal line b course range journal)
   names_line courses.Unserved P p h = (p, (p, (λ t q. absurd q, h)))
@@ -174,8 +184,9 @@ txn_facts s k count line b st text range journal run next list known some wall s
 -- a transaction's line is run
 pub run_next : (s : LinesRun) (k : Reading) (count line : ℕ) (b : Begun) (st : FirstStatement) (text : List ℕ) (course : Course) (range : Range) (journal : List JournalEntry)
     → IsRun s journal → TxnFacts s k count line b st text range journal → IsOfInts st → Goes range b st course
+    → (s.settings.max_offset < s.settings.lease → course ≢ courses.Unserved)
     → IsRun (with_line s line (events.Txn b.txn the_node kinds.Now text)) (line_journal line b course range journal)
-run_next s k count line b st text course range journal run facts ints goes =
+run_next s k count line b st text course range journal run facts ints goes served =
     let x : NumberedEvent = record { line = line; event = events.Txn b.txn the_node kinds.Now text } in
     record {
       lawful = λ later. line_lawful later s k count line b text range journal st course facts ints goes
@@ -190,5 +201,6 @@ run_next s k count line b st text course range journal run facts ints goes =
         );
       };
       settled = settled_line line b range journal course run.settled;
+      answered = λ w. answered_line line b range journal course (served w) (run.answered w);
       names = names_line line b range journal course (HasLine (x ∷ s.events)) (λ t e. inl e) (names_more x s.events journal run.names);
     }

@@ -2,10 +2,12 @@ use Rattle.std.specs.Prelude.{◌≡◌, ◌↔◌, ◌⊎◌, ℕ, ℤ, ◌+◌
 use Rattle.mr_base.specs.Timestamps.{of_reading}
 use Rattle.mr_base.specs.declared.ids.AttemptId.{AttemptId}
 use Rattle.mr_base.specs.declared.messages.Fate.TheVariants as fates
+use Rattle.mr_base.specs.declared.settings.Settings.{Settings}
 use Rattle.mr_base.specs.declared.timestamps.Reading.{Reading}
 use Rattle.mr_base.specs.declared.timestamps.Ts.{Ts}
 use Rattle.range_log.specs.declared.entries.Entry.{Entry}
 use Rattle.range_log.specs.declared.entries.Entry.TheVariants as log
+use Rattle.range_log.specs.declared.entries.Lease.{Lease}
 use Rattle.range_log.specs.declared.entries.TxnState.TheVariants as records
 use Rattle.row_locality.specs.Databases.{AreRising, AreInts, HasId, IsInt}
 use Rattle.row_locality.specs.IntRows.{int_key, int_value}
@@ -84,3 +86,7 @@ pub record IsKnown (kept : Reading) (count : ℕ) (range : Range) (journal : Lis
   pub floor_is : range.floor ≡ of_reading kept count
   pub small : range.length ≤ 1 + 3 * count
   pub state : IsUnmade range journal ⊎ IsKept kept count range journal
+
+-- The lease that is kept ends no sooner than a whole lease after the node's clock.
+abbrev pub IsLasting : Settings → ℕ → Range → Type 0
+IsLasting settings physical range = (lease : Lease) → range.lease ≡ Some lease → physical + settings.lease ≤ lease.expiration

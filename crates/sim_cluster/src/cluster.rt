@@ -34,14 +34,14 @@ pub struct Cluster {
 impl Model for Cluster {
     ghost use Rattle.std.specs.Prelude.{reverse};
     ghost use Rattle.sim_cluster.specs.Bounds.{IsSound};
-    ghost use Rattle.sim_cluster.specs.Kept.{IsKnown};
+    ghost use Rattle.sim_cluster.specs.Kept.{IsKnown, IsLasting};
     ghost use Rattle.sim_cluster.specs.View.{View};
 
     ghost Value = { View };
 
     ghost view = { λ c. record { settings = c.settings; physical = c.clock.physical; journal = reverse c.journal.items } };
 
-    ghost invariant = { λ c. IsSound c.settings c.clock.physical c.clock.kept c.attempts × IsKnown c.clock.kept c.attempts c.range (reverse c.journal.items) };
+    ghost invariant = { λ c. IsSound c.settings c.clock.physical c.clock.kept c.attempts × IsKnown c.clock.kept c.attempts c.range (reverse c.journal.items) × IsLasting c.settings c.clock.physical c.range };
 }
 
 impl Cluster {

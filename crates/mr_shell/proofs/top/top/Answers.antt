@@ -1,6 +1,6 @@
 use Rattle.std.proofs.Common.{◌∙◌, ap}
 use Rattle.mr_shell.specs.Ends.{status_of}
-use Rattle.mr_shell.proofs.Headline.{serial_run, visible_run}
+use Rattle.mr_shell.proofs.Headline.{answered_run, serial_run, visible_run}
 use Rattle.mr_shell.proofs.Exact.{finds_fault, finds_size, runs_whole}
 use Rattle.mr_shell.proofs.top.top.Goals as goal
 
@@ -39,3 +39,6 @@ returns-in-Some-Run-clause-serial g c lines story r = serial_run c.lawful_is_ser
 
 pub returns-in-Some-Run-clause-visible : goal.returns-in-Some-Run-clause-visible
 returns-in-Some-Run-clause-visible g c lines story r = visible_run c.lawful_is_visible.ensures c.run.result.journal lines story r
+
+pub returns-in-Some-Run-clause-answered : goal.returns-in-Some-Run-clause-answered
+returns-in-Some-Run-clause-answered g c lines story r short = answered_run c.run.result.journal lines story r short

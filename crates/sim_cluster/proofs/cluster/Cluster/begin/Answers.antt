@@ -1,12 +1,14 @@
-use Rattle.std.proofs.Common.{◌≡◌, refl, sym, ap, ap₂, ◌∙◌, subst, reverse, [], ◌+◌}
+use Rattle.std.proofs.Common.{◌≡◌, refl, sym, ap, ap₂, ◌∙◌, subst, reverse, [], ◌+◌, ◌≤◌, arith}
 use Rattle.std.specs.Prelude.{List, Some}
 use Rattle.mr_base.specs.declared.timestamps.Reading.{Reading}
+use Rattle.range_log.specs.declared.entries.Lease.{Lease}
 use Rattle.run_laws.specs.LinesRun.{with_line}
 use Rattle.run_laws.specs.Runs.{IsRun}
 use Rattle.run_laws.specs.Words.{greatest_start}
 use Rattle.scenario.specs.declared.entries.JournalEntry.{JournalEntry}
 use Rattle.scenario.specs.declared.events.Event.TheVariants as events
 use Rattle.sim_cluster.proofs.BeginLemmas.{begun_journal, begin_run, begin_known}
+use Rattle.sim_cluster.proofs.LastingLemmas.{lasts_from, shows_physical}
 use Rattle.sim_cluster.specs.Clock.{reading_of}
 use Rattle.sim_cluster.specs.Kept.{IsKnown}
 use Rattle.sim_cluster.specs.declared.range.Range.{Range}
@@ -16,13 +18,17 @@ use Rattle.sim_cluster.proofs.cluster.Cluster.begin.Goals as goal
 pub invariant_of-self-2 : goal.invariant_of-self-2
 invariant_of-self-2 c =
     let empty : reverse c.self.inside.journal.items ≡ [] = ap (λ (v : View). v.journal) c.self.view_is ∙ c.requires in
-    let made : Range = record { lease = Some c.lease_until-lease.result; length = 1; ids = c.self.inside.range.ids; floor = c.self.inside.range.floor } in (
+    let made : Range = record { lease = Some c.lease_until-lease.result; length = 1; ids = c.self.inside.range.ids; floor = c.self.inside.range.floor } in
+    let until : c.self.inside.clock.physical ≤ c.reading.result.wall =
+    subst (λ (r : Reading). c.self.inside.clock.physical ≤ r.wall) (sym c.reading.ensures) (shows_physical c.self.inside.clock.physical c.self.inside.clock.kept) in (
       c.self.invariant.0,
       subst (λ (j : List JournalEntry). IsKnown c.self.inside.clock.kept c.self.inside.attempts made j)
           (sym (begun_journal c.args.line (c.reading.result.wall + c.self.inside.settings.lease) c.self.inside.journal.items c.in_ok-steps.steps.items c.append.new.self.items c.lease_until-lease.result
           c.in_ok-append.ensures.items c.in_ok-steps.ensures c.lease_until-lease.ensures empty))
           (begin_known c.self.inside.clock.kept c.self.inside.attempts c.args.line (c.reading.result.wall + c.self.inside.settings.lease) c.self.inside.range made (reverse c.self.inside.journal.items)
           empty c.self.invariant.1 (ap Some c.lease_until-lease.ensures) refl refl refl),
+      lasts_from c.self.inside.settings c.self.inside.clock.physical made c.lease_until-lease.result refl
+          (subst (λ (l : Lease). c.self.inside.clock.physical + c.self.inside.settings.lease ≤ l.expiration) (sym c.lease_until-lease.ensures) (omega (arith, until))),
     )
 
 pub returns-clause-run : goal.returns-clause-run

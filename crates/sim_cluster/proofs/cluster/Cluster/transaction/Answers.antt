@@ -1,4 +1,4 @@
-use Rattle.std.proofs.Common.{◌≡◌, ◌≢◌, ℕ, ℤ, pos, negsuc, Bool, cond, not, sym, ap, ap₂, ◌∙◌, subst, reverse, [], ◌+◌, ◌++◌, ◌≤◌, arith, w64, List, SFits}
+use Rattle.std.proofs.Common.{◌≡◌, ◌≢◌, ℕ, ℤ, pos, negsuc, Bool, cond, not, sym, ap, ap₂, ◌∙◌, subst, reverse, [], ◌+◌, ◌++◌, ◌≤◌, ◌<◌, arith, w64, List, SFits}
 use Rattle.mr_base.specs.Timestamps.{of_reading}
 use Rattle.mr_base.specs.declared.settings.Kind.TheVariants as kinds
 use Rattle.mr_base.specs.declared.settings.Settings.{Settings}
@@ -15,6 +15,7 @@ use Rattle.scenario.specs.declared.entries.JournalEntry.{JournalEntry}
 use Rattle.scenario.specs.declared.events.Event.TheVariants as events
 use Rattle.sim_cluster.proofs.JournalLemmas.{journal_is}
 use Rattle.sim_cluster.proofs.KnownLemmas.{IsOfInts, line_journal, line_known, with_floor}
+use Rattle.sim_cluster.proofs.LastingLemmas.{lasts_on, served}
 use Rattle.sim_cluster.proofs.RunLemmas.{NextReading, next_reading, run_next, steps_name, steps_some, txn_facts}
 use Rattle.sim_cluster.specs.Clock.{next_of}
 use Rattle.sim_cluster.specs.Kept.{IsKnown}
@@ -51,6 +52,9 @@ the_attempt c = c.in-Some-checked_add.ensures.1
 some_journal : (c : goal.After-drop-steps-2) → reverse c.self.inside.journal.items ≢ []
 some_journal c e = c.requires.0 (sym (ap (λ (v : View). v.journal) c.self.view_is) ∙ e)
 
+started : (c : goal.After-drop-steps-2) → (the_begun c).start.wall ≤ c.self.inside.clock.physical
+started c = subst (λ (ts : Ts). ts.wall ≤ c.self.inside.clock.physical) (sym c.owned_by.ensures) (the_next c).within
+
 pub invariant_of-self-2 : goal.invariant_of-self-2
 invariant_of-self-2 c = (
   record {
@@ -66,6 +70,7 @@ invariant_of-self-2 c = (
       (line_known c.self.inside.clock.kept c.next-start.result c.self.inside.attempts c.args.line (the_begun c) c.in-Some.statement c.course_of-course.result c.self.inside.range c.take_in.new.self
       (reverse c.self.inside.journal.items) (the_next c).ahead (the_next c).small (the_attempt c) (c.owned_by.ensures ∙ ap (λ x. of_reading c.next-start.result x) (the_attempt c)) (some_journal c)
       (of_ints c.args.list.now c.in-Some.statement c.in-Some.ensures.found) c.course_of-course.ensures c.in_ok-take_in.ensures.ok c.self.invariant.1)),
+  lasts_on c.self.inside.settings c.self.inside.clock.physical c.self.inside.range c.take_in.new.self c.course_of-course.result c.in_ok-take_in.ensures.ok c.self.invariant.2,
 )
 
 pub returns-clause-run : goal.returns-clause-run
@@ -83,7 +88,10 @@ returns-clause-run c s r n =
           run n c.in-Some.ensures.found c.self.invariant.1 (some_journal c) (subst (λ x. c.self.inside.clock.kept.wall ≤ x) (sym clock) c.self.invariant.0.kept) c.self.invariant.0.logical (the_attempt c)
           (c.owned_by.ensures ∙ ap (λ (y : Reading). of_reading y c.in-Some-checked_add.attempt) (c.next-start.ensures ∙ ap (λ x. next_of x c.self.inside.clock.kept) (sym clock)))
           (ap₂ (λ x (y : Settings). x + y.max_offset) (sym (ap (λ (ts : Ts). ts.wall) c.owned_by.ensures)) (sym settings)))
-          (of_ints c.args.list.now c.in-Some.statement c.in-Some.ensures.found) c.course_of-course.ensures);
+          (of_ints c.args.list.now c.in-Some.statement c.in-Some.ensures.found) c.course_of-course.ensures
+          (λ w. served c.self.inside.settings c.self.inside.clock.physical c.self.inside.clock.kept c.self.inside.attempts (the_begun c) c.in-Some.statement c.self.inside.range (reverse c.self.inside.journal.items) c.course_of-course.result
+          c.self.invariant.1 (some_journal c) c.self.invariant.2 (started c) (ap (λ (ts : Ts). ts.wall + c.self.inside.settings.max_offset) (sym c.owned_by.ensures)) c.course_of-course.ensures
+          (subst (λ (x : Settings). x.max_offset < x.lease) settings w)));
     }
 
 pub returns-clause-ok : goal.returns-clause-ok
