@@ -7,5 +7,6 @@ pub mod OneReading
 pub mod OneStory
 pub mod RunLemmas
 pub mod RunLines
+pub mod SessionStops
 pub mod StopLemmas
 pub mod TextLemmas

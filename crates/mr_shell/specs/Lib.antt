@@ -1,5 +1,6 @@
 pub mod Content
 pub mod Ends
+pub mod Pieces
 pub mod Run
 pub mod Session
 pub mod Story

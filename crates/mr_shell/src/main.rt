@@ -5,6 +5,7 @@ mod commands;
 mod outcome;
 mod pieces;
 mod report;
+mod runner;
 mod session;
 mod top;
 
