@@ -10,3 +10,5 @@ pub mod RunLines
 pub mod SessionStops
 pub mod StopLemmas
 pub mod TextLemmas
+pub mod ZoneLines
+pub mod ZoneStops

@@ -6,3 +6,6 @@ pub mod Session
 pub mod Story
 pub mod Texts
 pub mod Words
+pub mod ZoneRun
+pub mod ZoneStory
+pub mod ZonesSession

@@ -25,21 +25,22 @@ report_of mode story journal = journal_text mode story.seen.names journal
 abbrev pub IsWithinLimit : (taken : List ℕ) → Type 0
 IsWithinLimit taken = length taken ≤ 16777216
 
--- Why a run ends after these lines, given the bytes taken of the source and those that are left.
-abbrev pub EndsAfter : End → (taken : List ℕ) → (left : Option (List ℕ)) → List (List ℕ) → Story → Type 0
-EndsAfter ends.Whole taken left lines story = AreAllLines taken left lines × IsWithinLimit taken
-EndsAfter (ends.Fault fault number) taken left lines story =
-    (line : List ℕ) × AreFirstLines taken left (line ∷ lines) × HasFault story line fault × (number ≡ length lines + 1)
+-- Why a run ends after these lines, given the bytes taken of the source and those that are left, and which
+-- line has which fault.
+abbrev pub EndsAfter : (HasFault : List ℕ → ℕ → Type 0) → End → (taken : List ℕ) → (left : Option (List ℕ)) → List (List ℕ) → Type 0
+EndsAfter HasFault ends.Whole taken left lines = AreAllLines taken left lines × IsWithinLimit taken
+EndsAfter HasFault (ends.Fault fault number) taken left lines =
+    (line : List ℕ) × AreFirstLines taken left (line ∷ lines) × HasFault line fault × (number ≡ length lines + 1)
     × IsWithinLimit taken
-EndsAfter ends.Read taken left lines story = (rest : List ℕ) × IsCut taken lines rest × IsWithinLimit taken
-EndsAfter ends.Size taken left lines story =
+EndsAfter HasFault ends.Read taken left lines = (rest : List ℕ) × IsCut taken lines rest × IsWithinLimit taken
+EndsAfter HasFault ends.Size taken left lines =
     (first rest : List ℕ) × (beyond : ℕ) × (taken ≡ first ++ beyond ∷ []) × (length first ≡ 16777216) × IsCut first lines rest
-EndsAfter _ taken left lines story = ⊥
+EndsAfter HasFault _ taken left lines = ⊥
 
 -- A run ends so, its whole text was written, and then these bytes.
 abbrev pub EndsSaying : (said : List ℕ) → End → (taken : List ℕ) → (left : Option (List ℕ)) → Report → List JournalEntry → (written : Option (List ℕ)) → Type 0
 EndsSaying said end taken left report journal written =
-    (lines : List (List ℕ)) × (story : Story) × EndsAfter end taken left lines story × AreRun lines story journal
+    (lines : List (List ℕ)) × (story : Story) × EndsAfter (HasFault story) end taken left lines × AreRun lines story journal
     × Wrote report.start written (report_of report.mode story journal ++ said)
 
 -- A run that ends so has written its whole text and the last line, where there is one.

@@ -1,21 +1,25 @@
 //! The words that the program takes.
 
-ghost use Rattle.std.specs.Prelude.{◌≡◌, string_bytes};
-ghost use Rattle.mr_shell.specs.Words.{chosen, command_of, is_dashed, nothing_given, verb_of, with_name, with_trace, with_word, with_words};
+ghost use Rattle.std.specs.Prelude.{◌≡◌};
+ghost use Rattle.mr_shell.specs.Words.{chosen, command_of, is_dashed, run_of, verb_of, with_json, with_name, with_trace, with_word, with_words, zones_of};
 
 use scenario::Mode;
+use zone_report::Format;
 
 /// What the program is asked to do.
 #[derive(Clone, Copy, Debug, PartialEq, Eq)]
 pub enum Command {
     /// Read a scenario, run it and write a report of this mode.
     Run(Mode),
+    /// Read the nodes and statements of a scenario and write its ranges so.
+    Zones(Format),
 }
 
 /// The name of a command.
 #[derive(Clone, Copy, Debug, PartialEq, Eq)]
 pub enum Verb {
     Run,
+    Zones,
 }
 
 /// What the words so far have given.
@@ -23,6 +27,7 @@ pub enum Verb {
 pub struct Given {
     pub verb: Option<Verb>,
     pub trace: bool,
+    pub json: bool,
     /// The word `--` was read, behind which no word is a flag.
     pub ended: bool,
 }
@@ -32,6 +37,9 @@ fn verb_of(word: &[u8]) -> Option<Verb>
 {
     if word == b"run".as_slice() {
         return Some(Verb::Run);
+    }
+    if word == b"zones".as_slice() {
+        return Some(Verb::Zones);
     }
     None
 }
@@ -62,6 +70,18 @@ fn with_trace(given: Given) -> Option<Given>
     })
 }
 
+fn with_json(given: Given) -> Option<Given>
+    ensures { result ≡ with_json given }
+{
+    if given.json {
+        return None;
+    }
+    Some(Given {
+        json: true,
+        ..given
+    })
+}
+
 /// Whether a word has a dash at its head, and more.
 fn is_dashed(word: &[u8]) -> bool
     ensures { result ≡ is_dashed word.now }
@@ -85,6 +105,9 @@ fn with_word(given: Given, word: &[u8]) -> Option<Given>
     if word == b"--trace".as_slice() {
         return with_trace(given);
     }
+    if word == b"--json".as_slice() {
+        return with_json(given);
+    }
     if is_dashed(word) {
         return None;
     }
@@ -103,14 +126,35 @@ fn with_words(given: Given, words: &[String]) -> Option<Given>
 }
 
 /// The command of a name with its flags.
-fn chosen(verb: Option<Verb>, trace: bool) -> Option<Command>
-    ensures { result ≡ chosen verb trace }
+fn chosen(given: Given) -> Option<Command>
+    ensures { result ≡ chosen given.verb given.trace given.json }
 {
-    match (verb, trace) {
-        (Some(Verb::Run), true) => Some(Command::Run(Mode::Trace)),
-        (Some(Verb::Run), false) => Some(Command::Run(Mode::Answers)),
-        (None, _) => None,
+    match given.verb? {
+        Verb::Run => run_of(given.trace, given.json),
+        Verb::Zones => zones_of(given.trace, given.json),
     }
+}
+
+/// `run` with these flags.
+fn run_of(trace: bool, json: bool) -> Option<Command>
+    ensures { result ≡ run_of trace json }
+{
+    if json {
+        return None;
+    }
+    let mode = if trace { Mode::Trace } else { Mode::Answers };
+    Some(Command::Run(mode))
+}
+
+/// `zones` with these flags.
+fn zones_of(trace: bool, json: bool) -> Option<Command>
+    ensures { result ≡ zones_of trace json }
+{
+    if trace {
+        return None;
+    }
+    let format = if json { Format::Json } else { Format::Text };
+    Some(Command::Zones(format))
 }
 
 /// The command that the words are, if they are one.
@@ -120,10 +164,11 @@ pub fn command_of(words: &[String]) -> Option<Command>
     let start = Given {
         verb: None,
         trace: false,
+        json: false,
         ended: false,
     };
     match with_words(start, words) {
         None => None,
-        Some(given) => chosen(given.verb, given.trace),
+        Some(given) => chosen(given),
     }
 }

@@ -8,6 +8,7 @@ mod report;
 mod runner;
 mod session;
 mod top;
+mod zones_session;
 
 use mr_io::{StdSink, StdSource};
 use outcome::MEMORY;

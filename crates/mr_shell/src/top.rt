@@ -6,7 +6,9 @@ ghost use Rattle.mr_shell.specs.Ends.{IsStatus, EndsPieces, status_of};
 ghost use Rattle.mr_shell.specs.Run.{AfterTaking, EndsWith, EndsShort, HasEnded, IsFaultless, IsFaulty, IsTooLarge};
 ghost use Rattle.mr_shell.specs.Texts.{IsTold, Says, Wrote, last_line, report_to, usage_line};
 ghost use Rattle.mr_shell.specs.Words.{Ask, command_of};
-ghost use Rattle.mr_shell.specs.declared.commands.Command.TheVariants.{Run};
+ghost use Rattle.mr_shell.specs.declared.commands.Command.TheVariants.{Run, Zones as ZonesIn};
+ghost use Rattle.mr_shell.specs.ZoneRun.{ZonesEnd, ZonesEndShort, ZonesHaveEnded};
+ghost use Rattle.zone_report.specs.declared.report.Format.{Format as AnyFormat};
 ghost use Rattle.scenario.specs.declared.lines.Mode.{Mode as AnyMode};
 ghost use Rattle.mr_shell.specs.declared.outcome.End.{End};
 
@@ -14,9 +16,11 @@ use crate::commands::{Command, command_of};
 use crate::outcome::{End, Outcome};
 use crate::pieces::run_source;
 use crate::session::Session;
+use crate::zones_session::ZonesSession;
 use mr_io::{Sink, Source, write_all};
 use scenario::{Journal, Mode};
 use std::alloc::Global;
+use zone_report::Format;
 
 /// The line of a usage fault.
 const USAGE: &str =
@@ -57,6 +61,19 @@ pub fn top<S: Source, K: Sink>(
     ensures runs_whole { (mode : AnyMode) → Ask words.now (Run mode) → IsFaultless (S.left source.old) → ¬ CountsFault (S.faults source.old) (S.faults source.new) S.most_faults → ¬ CountsFault (K.faults sink.old) (K.faults sink.new) K.most_faults → (result.status ≡ 0) ⊎ (result.status ≡ 5) }
     ensures finds_fault { (mode : AnyMode) → Ask words.now (Run mode) → IsFaulty (S.left source.old) → ¬ CountsFault (S.faults source.old) (S.faults source.new) S.most_faults → ¬ CountsFault (K.faults sink.old) (K.faults sink.new) K.most_faults → (result.status ≡ 1) ⊎ (result.status ≡ 5) }
     ensures finds_size { (mode : AnyMode) → Ask words.now (Run mode) → IsTooLarge (S.left source.old) → ¬ CountsFault (S.faults source.old) (S.faults source.new) S.most_faults → ¬ CountsFault (K.faults sink.old) (K.faults sink.new) K.most_faults → (result.status ≡ 7) ⊎ (result.status ≡ 5) }
+    // The ranges of a scenario. No entry is made.
+    ensures zones_journal { (format : AnyFormat) → Ask words.now (ZonesIn format) → result.journal ≡ [] }
+    // Every line was run: the lines of refused statements were written in their order, and the report of all ranges.
+    ensures zones_whole { (format : AnyFormat) → Ask words.now (ZonesIn format) → result.status ≡ 0 → AfterTaking (S.left source.old) (S.left source.new) (λ taken. ZonesEnd format End.Whole taken (S.left source.new) (K.written sink.old) (K.written sink.new)) }
+    // A line has a fault, a read failed, or the scenario is too large: the lines of the statements refused before
+    // were written, and the line that says so, if there is one.
+    ensures zones_faulty { (format : AnyFormat) → Ask words.now (ZonesIn format) → result.status ≡ 1 → (fault number : ℕ) × AfterTaking (S.left source.old) (S.left source.new) (λ taken. ZonesEnd format (End.Fault fault number) taken (S.left source.new) (K.written sink.old) (K.written sink.new)) }
+    ensures zones_unread { (format : AnyFormat) → Ask words.now (ZonesIn format) → result.status ≡ 3 → AfterTaking (S.left source.old) (S.left source.new) (λ taken. ZonesEnd format End.Read taken (S.left source.new) (K.written sink.old) (K.written sink.new)) }
+    ensures zones_too_large { (format : AnyFormat) → Ask words.now (ZonesIn format) → result.status ≡ 7 → AfterTaking (S.left source.old) (S.left source.new) (λ taken. ZonesEnd format End.Size taken (S.left source.new) (K.written sink.old) (K.written sink.new)) }
+    // A write failed: only the last of the lines, or the report, may stand there in part.
+    ensures zones_unwritten { (format : AnyFormat) → Ask words.now (ZonesIn format) → result.status ≡ 4 → AfterTaking (S.left source.old) (S.left source.new) (λ taken. ZonesHaveEnded format End.Write taken (S.left source.new) (K.written sink.old) (K.written sink.new)) }
+    // Memory ran out: the lines of the statements refused before were written.
+    ensures zones_short { (format : AnyFormat) → Ask words.now (ZonesIn format) → result.status ≡ 5 → AfterTaking (S.left source.old) (S.left source.new) (λ taken. ZonesEndShort taken (S.left source.new) (K.written sink.old) (K.written sink.new)) }
     // A read that failed was counted, and so was a write.
     ensures read_failed { result.status ≡ 3 → CountsFault (S.faults source.old) (S.faults source.new) S.most_faults }
     ensures write_failed { result.status ≡ 4 → CountsFault (K.faults sink.old) (K.faults sink.new) K.most_faults }
@@ -94,12 +111,14 @@ fn carry_out<S: Source, K: Sink>(
 ) -> Outcome
     ensures statuses { IsStatus result.status }
     ensures no_usage { result.status ≢ 2 }
+    ensures zoned { (format : AnyFormat) → command ≡ ZonesIn format → (result.journal ≡ []) × (end : End) × (result.status ≡ status_of end) × AfterTaking (S.left source.old) (S.left source.new) (λ taken. ZonesHaveEnded format end taken (S.left source.new) (K.written sink.old) (K.written sink.new)) }
     ensures ran { (mode : AnyMode) → command ≡ Run mode → (end : End) × (result.status ≡ status_of end) × AfterTaking (S.left source.old) (S.left source.new) (λ taken. HasEnded end taken (S.left source.new) (report_to mode (K.written sink.old)) result.journal (K.written sink.new)) }
     ensures read_failed { result.status ≡ 3 → CountsFault (S.faults source.old) (S.faults source.new) S.most_faults }
     ensures write_failed { result.status ≡ 4 → CountsFault (K.faults sink.old) (K.faults sink.new) K.most_faults }
 {
     match command {
         Command::Run(mode) => run(alloc, mode, source, sink),
+        Command::Zones(format) => zones(alloc, format, source, sink),
     }
 }
 
@@ -119,6 +138,26 @@ fn run<S: Source, K: Sink>(alloc: Global, mode: Mode, source: &mut S, sink: &mut
     Outcome {
         status: end.status(),
         journal: session.into_journal(),
+    }
+}
+
+/// Writes the ranges of the scenario that the source gives.
+fn zones<S: Source, K: Sink>(alloc: Global, format: Format, source: &mut S, sink: &mut K) -> Outcome
+    ensures statuses { IsStatus result.status }
+    ensures no_usage { result.status ≢ 2 }
+    ensures journal { result.journal ≡ [] }
+    ensures ended { (end : End) × (result.status ≡ status_of end) × AfterTaking (S.left source.old) (S.left source.new) (λ taken. ZonesHaveEnded format end taken (S.left source.new) (K.written sink.old) (K.written sink.new)) }
+    ensures read_failed { result.status ≡ 3 → CountsFault (S.faults source.old) (S.faults source.new) S.most_faults }
+    ensures write_failed { result.status ≡ 4 → CountsFault (K.faults sink.old) (K.faults sink.new) K.most_faults }
+{
+    let mut session = ZonesSession::new(alloc);
+    let end = match run_source(alloc, &mut session, source, sink) {
+        Ok(()) => session.write_report(format, sink),
+        Err(end) => say(alloc, end, sink),
+    };
+    Outcome {
+        status: end.status(),
+        journal: Journal::new(alloc),
     }
 }
 

@@ -3,6 +3,7 @@ use Rattle.mr_shell.specs.Ends.{status_of}
 use Rattle.mr_shell.specs.Texts.{report_to}
 use Rattle.mr_shell.specs.declared.commands.Command.TheVariants as commands
 use Rattle.mr_shell.proofs.EndLemmas.{at_fault, at_memory, at_read, at_size, at_whole, at_write}
+use Rattle.mr_shell.proofs.ZoneStops.{zones_fault, zones_memory, zones_read, zones_size, zones_whole, zones_write}
 use Rattle.mr_shell.proofs.Exact.{finds_fault, finds_size, runs_whole}
 use Rattle.mr_shell.proofs.top.top.Goals as goal
 
@@ -96,3 +97,71 @@ returns-in-Some-clause-finds_size g c =
     (finds_size e.0 (g.S.Source.left c.args.source.now) (g.S.Source.left c.carry_out.new.source) (report_to mode (g.K.Sink.written c.args.sink.now)) t.0 c.carry_out.result.journal (g.K.Sink.written c.carry_out.new.sink) t.1 known t.2
     (λ read. reads (c.carry_out.ensures.read_failed (e.1 ∙ ap status_of read)))
     (λ write. writes (c.carry_out.ensures.write_failed (e.1 ∙ ap status_of write))))
+
+pub returns-in-Some-clause-zones_whole : goal.returns-in-Some-clause-zones_whole
+returns-in-Some-clause-zones_whole g c =
+    λ format asks is.
+    let k = sym c.in-Some.is ∙ (c.command_of.ensures ∙ asks) in
+    let same : c.in-Some.command ≡ commands.Zones format = cc in
+    let z = c.carry_out.ensures.zoned format same in
+    let e = z.2 in
+    let t = z.3 in
+    (t.0, t.1, zones_whole format z.1 t.0 (g.S.Source.left c.carry_out.new.source) (g.K.Sink.written c.args.sink.now) (g.K.Sink.written c.carry_out.new.sink) (sym e ∙ is) t.2)
+
+pub returns-in-Some-clause-zones_unread : goal.returns-in-Some-clause-zones_unread
+returns-in-Some-clause-zones_unread g c =
+    λ format asks is.
+    let k = sym c.in-Some.is ∙ (c.command_of.ensures ∙ asks) in
+    let same : c.in-Some.command ≡ commands.Zones format = cc in
+    let z = c.carry_out.ensures.zoned format same in
+    let e = z.2 in
+    let t = z.3 in
+    (t.0, t.1, zones_read format z.1 t.0 (g.S.Source.left c.carry_out.new.source) (g.K.Sink.written c.args.sink.now) (g.K.Sink.written c.carry_out.new.sink) (sym e ∙ is) t.2)
+
+pub returns-in-Some-clause-zones_unwritten : goal.returns-in-Some-clause-zones_unwritten
+returns-in-Some-clause-zones_unwritten g c =
+    λ format asks is.
+    let k = sym c.in-Some.is ∙ (c.command_of.ensures ∙ asks) in
+    let same : c.in-Some.command ≡ commands.Zones format = cc in
+    let z = c.carry_out.ensures.zoned format same in
+    let e = z.2 in
+    let t = z.3 in
+    (t.0, t.1, zones_write format z.1 t.0 (g.S.Source.left c.carry_out.new.source) (g.K.Sink.written c.args.sink.now) (g.K.Sink.written c.carry_out.new.sink) (sym e ∙ is) t.2)
+
+pub returns-in-Some-clause-zones_short : goal.returns-in-Some-clause-zones_short
+returns-in-Some-clause-zones_short g c =
+    λ format asks is.
+    let k = sym c.in-Some.is ∙ (c.command_of.ensures ∙ asks) in
+    let same : c.in-Some.command ≡ commands.Zones format = cc in
+    let z = c.carry_out.ensures.zoned format same in
+    let e = z.2 in
+    let t = z.3 in
+    (t.0, t.1, zones_memory format z.1 t.0 (g.S.Source.left c.carry_out.new.source) (g.K.Sink.written c.args.sink.now) (g.K.Sink.written c.carry_out.new.sink) (sym e ∙ is) t.2)
+
+pub returns-in-Some-clause-zones_too_large : goal.returns-in-Some-clause-zones_too_large
+returns-in-Some-clause-zones_too_large g c =
+    λ format asks is.
+    let k = sym c.in-Some.is ∙ (c.command_of.ensures ∙ asks) in
+    let same : c.in-Some.command ≡ commands.Zones format = cc in
+    let z = c.carry_out.ensures.zoned format same in
+    let e = z.2 in
+    let t = z.3 in
+    (t.0, t.1, zones_size format z.1 t.0 (g.S.Source.left c.carry_out.new.source) (g.K.Sink.written c.args.sink.now) (g.K.Sink.written c.carry_out.new.sink) (sym e ∙ is) t.2)
+
+pub returns-in-Some-clause-zones_faulty : goal.returns-in-Some-clause-zones_faulty
+returns-in-Some-clause-zones_faulty g c =
+    λ format asks is.
+    let k = sym c.in-Some.is ∙ (c.command_of.ensures ∙ asks) in
+    let same : c.in-Some.command ≡ commands.Zones format = cc in
+    let z = c.carry_out.ensures.zoned format same in
+    let e = z.2 in
+    let t = z.3 in
+    let f = zones_fault format z.1 t.0 (g.S.Source.left c.carry_out.new.source) (g.K.Sink.written c.args.sink.now) (g.K.Sink.written c.carry_out.new.sink) (sym e ∙ is) t.2 in
+    (f.0, f.1, (t.0, t.1, f.2))
+
+pub returns-in-Some-clause-zones_journal : goal.returns-in-Some-clause-zones_journal
+returns-in-Some-clause-zones_journal g c =
+    λ format asks.
+    let k = sym c.in-Some.is ∙ (c.command_of.ensures ∙ asks) in
+    let same : c.in-Some.command ≡ commands.Zones format = cc in
+    (c.carry_out.ensures.zoned format same).0
