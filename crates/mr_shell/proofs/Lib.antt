@@ -8,5 +8,8 @@ pub mod OneReading
 pub mod OneStory
 pub mod RunLemmas
 pub mod RunLines
+pub mod SessionStops
 pub mod StopLemmas
 pub mod TextLemmas
+pub mod ZoneLines
+pub mod ZoneStops

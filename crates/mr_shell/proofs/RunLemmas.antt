@@ -16,7 +16,7 @@ use Rattle.scenario.specs.declared.events.Event.{Event}
 use Rattle.scenario.specs.declared.events.Event.TheVariants as events
 use Rattle.scenario.specs.declared.lines.Line.{Line}
 use Rattle.scenario.specs.declared.lines.Line.TheVariants as lines
-use Rattle.scenario.specs.declared.lines.Mode.TheVariants as mode
+use Rattle.scenario.specs.declared.lines.Mode.{Mode}
 use Rattle.scenario.proofs.MoreNames.{texts-more}
 use Rattle.scenario.proofs.NamesOnly.{NamesOnly-append, NamesOnly-reverse, NamesOnly-weaker}
 use Rattle.sim_cluster.specs.Cluster.{GoesOn, IsOf, IsRunOf}
@@ -26,7 +26,7 @@ use Rattle.mr_shell.specs.Run.{RunsLine, ShowsAll, ShowsEntries, ShowsPart}
 use Rattle.mr_shell.specs.Session.{Follows}
 use Rattle.run_laws.specs.LinesRun.{with_line}
 use Rattle.mr_shell.specs.Story.{Story, Tells, run_with}
-use Rattle.mr_shell.specs.Texts.{texts, journal_text, Wrote}
+use Rattle.mr_shell.specs.Texts.{Report, texts, journal_text, Wrote}
 
 -- what was written in two pieces
 pub wrote-more : (start mid written : Option (List ℕ)) (xs ys : List ℕ) → Wrote start mid xs → Wrote mid written ys → Wrote start written (xs ++ ys)
@@ -39,16 +39,16 @@ flat_map-append : (f : JournalEntry → List ℕ) (xs ys : List JournalEntry) �
 flat_map-append f [] ys = refl
 flat_map-append f (x ∷ xs) ys = ap (λ (l : List ℕ). f x ++ l) (flat_map-append f xs ys) ∙ sym (append_assoc (f x) (flat_map f xs) (flat_map f ys))
 
-pub texts-append : (names : List (List ℕ)) (es fs : List JournalEntry) → texts names (es ++ fs) ≡ texts names es ++ texts names fs
-texts-append names es fs = flat_map-append (entry_text names mode.Answers) es fs
+pub texts-append : (mode : Mode) (names : List (List ℕ)) (es fs : List JournalEntry) → texts mode names (es ++ fs) ≡ texts mode names es ++ texts mode names fs
+texts-append mode names es fs = flat_map-append (entry_text names mode) es fs
 
 -- newer entries stand behind the older ones in the text
-pub journal_text-append : (names : List (List ℕ)) (fresh journal : List JournalEntry) → journal_text names (fresh ++ journal) ≡ journal_text names journal ++ journal_text names fresh
-journal_text-append names fresh journal = ap (texts names) (reverse-append fresh journal) ∙ texts-append names (reverse journal) (reverse fresh)
+pub journal_text-append : (mode : Mode) (names : List (List ℕ)) (fresh journal : List JournalEntry) → journal_text mode names (fresh ++ journal) ≡ journal_text mode names journal ++ journal_text mode names fresh
+journal_text-append mode names fresh journal = ap (texts mode names) (reverse-append fresh journal) ∙ texts-append mode names (reverse journal) (reverse fresh)
 
 -- more names leave the text of a journal as it is
-pub journal_text-more : (names more : List (List ℕ)) (journal : List JournalEntry) → NamesOnly (λ t. t.0 < length names) journal → journal_text (names ++ more) journal ≡ journal_text names journal
-journal_text-more names more journal h = texts-more names more mode.Answers (reverse journal) (NamesOnly-reverse (λ t. t.0 < length names) journal h)
+pub journal_text-more : (mode : Mode) (names more : List (List ℕ)) (journal : List JournalEntry) → NamesOnly (λ t. t.0 < length names) journal → journal_text mode (names ++ more) journal ≡ journal_text mode names journal
+journal_text-more mode names more journal h = texts-more names more mode (reverse journal) (NamesOnly-reverse (λ t. t.0 < length names) journal h)
 
 -- a line leaves the names that were there
 pub names_stay : (seen : Seen) (text : List ℕ) (line : Line) (seen' : Seen) → Reads seen text line seen' → (more : List (List ℕ)) × (seen'.names ≡ seen.names ++ more)
@@ -77,30 +77,30 @@ within_more : (names more : List (List ℕ)) (t : TxnId) → t.0 < length names 
 within_more names more t h = omega (arith, h, length-append names more)
 
 -- a line that makes no entry
-pub follows_names : (story : Story) (settings : Settings) (cluster : View) (start written : Option (List ℕ)) (text : List ℕ) (line : Line) (seen : Seen) → Reads story.seen text line seen → Follows story settings cluster start written → Follows (record { seen = seen; run = story.run }) settings cluster start written
-follows_names story settings cluster start written text line seen read f =
+pub follows_names : (story : Story) (settings : Settings) (cluster : View) (report : Report) (written : Option (List ℕ)) (text : List ℕ) (line : Line) (seen : Seen) → Reads story.seen text line seen → Follows story settings cluster report written → Follows (record { seen = seen; run = story.run }) settings cluster report written
+follows_names story settings cluster report written text line seen read f =
     let n = names_stay story.seen text line seen read in
     record {
       made = f.made;
       run = f.run;
       names = subst (λ (names : List (List ℕ)). NamesOnly (λ t. t.0 < length names) cluster.journal) (sym n.1) (NamesOnly-weaker (λ t. t.0 < length story.seen.names) (λ t. t.0 < length (story.seen.names ++ n.0)) (within_more story.seen.names n.0) cluster.journal f.names);
-      text = f.text ∙ ap (append_known start) (sym (ap (λ (names : List (List ℕ)). journal_text names cluster.journal) n.1 ∙ journal_text-more story.seen.names n.0 cluster.journal f.names));
+      text = f.text ∙ ap (append_known report.start) (sym (ap (λ (names : List (List ℕ)). journal_text report.mode names cluster.journal) n.1 ∙ journal_text-more report.mode story.seen.names n.0 cluster.journal f.names));
     }
 
 -- a line's entries behind the text of those that were there
-pub wrote_entries : (story : Story) (settings : Settings) (cluster : View) (start mid written : Option (List ℕ)) (text : List ℕ) (line : Line) (seen : Seen) (more : List ℕ) → Reads story.seen text line seen → Follows story settings cluster start mid → Wrote mid written more → Wrote start written (journal_text seen.names cluster.journal ++ more)
-wrote_entries story settings cluster start mid written text line seen more read f w =
-    wrote-more start mid written (journal_text seen.names cluster.journal) more (follows_names story settings cluster start mid text line seen read f).text w
+pub wrote_entries : (story : Story) (settings : Settings) (cluster : View) (report : Report) (mid written : Option (List ℕ)) (text : List ℕ) (line : Line) (seen : Seen) (more : List ℕ) → Reads story.seen text line seen → Follows story settings cluster report mid → Wrote mid written more → Wrote report.start written (journal_text report.mode seen.names cluster.journal ++ more)
+wrote_entries story settings cluster report mid written text line seen more read f w =
+    wrote-more report.start mid written (journal_text report.mode seen.names cluster.journal) more (follows_names story settings cluster report mid text line seen read f).text w
 
 -- a line from `begin` on whose entries were all written
-pub follows_event : (story : Story) (settings : Settings) (old new : View) (start mid written : Option (List ℕ)) (text : List ℕ) (number : ℕ) (e : Event) (seen : Seen) → IsRunOf (with_line story.run number e) new → Reads story.seen text (lines.Event e) seen → Follows story settings old start mid → (goes : GoesOn old e new) → Wrote mid written (journal_text seen.names goes.fresh) → Follows (record { seen = seen; run = with_line story.run number e }) settings new start written
-follows_event story settings old new start mid written text number e seen ran read f goes w =
-    let kept = follows_names story settings old start mid text (lines.Event e) seen read f in
+pub follows_event : (story : Story) (settings : Settings) (old new : View) (report : Report) (mid written : Option (List ℕ)) (text : List ℕ) (number : ℕ) (e : Event) (seen : Seen) → IsRunOf (with_line story.run number e) new → Reads story.seen text (lines.Event e) seen → Follows story settings old report mid → (goes : GoesOn old e new) → Wrote mid written (journal_text report.mode seen.names goes.fresh) → Follows (record { seen = seen; run = with_line story.run number e }) settings new report written
+follows_event story settings old new report mid written text number e seen ran read f goes w =
+    let kept = follows_names story settings old report mid text (lines.Event e) seen read f in
     record {
       made = f.made;
       run = ran;
       names = subst (NamesOnly (λ t. t.0 < length seen.names)) (sym goes.journal) (NamesOnly-append (λ t. t.0 < length seen.names) goes.fresh old.journal (NamesOnly-weaker (IsOf e) (λ t. t.0 < length seen.names) (named story.seen text e seen read) goes.fresh goes.names) kept.names);
-      text = wrote_entries story settings old start mid written text (lines.Event e) seen (journal_text seen.names goes.fresh) read f w ∙ ap (append_known start) (sym (ap (journal_text seen.names) goes.journal ∙ journal_text-append seen.names goes.fresh old.journal));
+      text = wrote_entries story settings old report mid written text (lines.Event e) seen (journal_text report.mode seen.names goes.fresh) read f w ∙ ap (append_known report.start) (sym (ap (journal_text report.mode seen.names) goes.journal ∙ journal_text-append report.mode seen.names goes.fresh old.journal));
     }
 
 -- what a journal's entries are behind those that it had
@@ -126,8 +126,8 @@ runs_line text before earlier story old new line was ran tells read run =
     }
 
 -- writing stopped between two entries
-pub shows_entries : (text : List ℕ) (before : List (List ℕ)) (earlier story : Story) (settings : Settings) (old new : View) (start mid written : Option (List ℕ)) (e : Event) (shown unshown : List JournalEntry) → IsRunOf story.run new → Tells before earlier → Reads earlier.seen text (lines.Event e) story.seen → story.run ≡ run_with earlier.run (length before + 1) (lines.Event e) → Follows earlier settings old start mid → (goes : GoesOn old e new) → reverse goes.fresh ≡ shown ++ unshown → Wrote mid written (texts story.seen.names shown) → ShowsEntries text before start new.journal written
-shows_entries text before earlier story settings old new start mid written e shown unshown ran tells read run f goes split w =
+pub shows_entries : (text : List ℕ) (before : List (List ℕ)) (earlier story : Story) (settings : Settings) (old new : View) (report : Report) (mid written : Option (List ℕ)) (e : Event) (shown unshown : List JournalEntry) → IsRunOf story.run new → Tells before earlier → Reads earlier.seen text (lines.Event e) story.seen → story.run ≡ run_with earlier.run (length before + 1) (lines.Event e) → Follows earlier settings old report mid → (goes : GoesOn old e new) → reverse goes.fresh ≡ shown ++ unshown → Wrote mid written (texts report.mode story.seen.names shown) → ShowsEntries text before report new.journal written
+shows_entries text before earlier story settings old new report mid written e shown unshown ran tells read run f goes split w =
     let fresh : goes.fresh ≡ reverse unshown ++ reverse shown = sym (reverse-reverse goes.fresh) ∙ ap (λ (l : List JournalEntry). reverse l) split ∙ reverse-append shown unshown in (
       old.journal,
       reverse shown,
@@ -135,22 +135,22 @@ shows_entries text before earlier story settings old new start mid written e sho
       story,
       runs_line text before earlier story old new (lines.Event e) f.run ran tells read run,
       goes.journal ∙ ap (λ (l : List JournalEntry). l ++ old.journal) fresh ∙ append_assoc (reverse unshown) (reverse shown) old.journal,
-      wrote_entries earlier settings old start mid written text (lines.Event e) story.seen (texts story.seen.names shown) read f w
-          ∙ ap (append_known start) (sym (journal_text-append story.seen.names (reverse shown) old.journal ∙ ap (λ (l : List JournalEntry). journal_text story.seen.names old.journal ++ texts story.seen.names l) (reverse-reverse shown))),
+      wrote_entries earlier settings old report mid written text (lines.Event e) story.seen (texts report.mode story.seen.names shown) read f w
+          ∙ ap (append_known report.start) (sym (journal_text-append report.mode story.seen.names (reverse shown) old.journal ∙ ap (λ (l : List JournalEntry). journal_text report.mode story.seen.names old.journal ++ texts report.mode story.seen.names l) (reverse-reverse shown))),
     )
 
 -- a write failed among a line's entries
-pub shows_part : (text : List ℕ) (before : List (List ℕ)) (earlier story : Story) (settings : Settings) (old new : View) (start mid written : Option (List ℕ)) (e : Event) (count : ℕ) → IsRunOf story.run new → Tells before earlier → Reads earlier.seen text (lines.Event e) story.seen → story.run ≡ run_with earlier.run (length before + 1) (lines.Event e) → Follows earlier settings old start mid → (goes : GoesOn old e new) → Wrote mid written (take count (journal_text story.seen.names goes.fresh)) → ShowsPart text before start new.journal written
-shows_part text before earlier story settings old new start mid written e count ran tells read run f goes w = (
+pub shows_part : (text : List ℕ) (before : List (List ℕ)) (earlier story : Story) (settings : Settings) (old new : View) (report : Report) (mid written : Option (List ℕ)) (e : Event) (count : ℕ) → IsRunOf story.run new → Tells before earlier → Reads earlier.seen text (lines.Event e) story.seen → story.run ≡ run_with earlier.run (length before + 1) (lines.Event e) → Follows earlier settings old report mid → (goes : GoesOn old e new) → Wrote mid written (take count (journal_text report.mode story.seen.names goes.fresh)) → ShowsPart text before report new.journal written
+shows_part text before earlier story settings old new report mid written e count ran tells read run f goes w = (
   old.journal,
   goes.fresh,
   count,
   story,
   runs_line text before earlier story old new (lines.Event e) f.run ran tells read run,
   goes.journal,
-  wrote_entries earlier settings old start mid written text (lines.Event e) story.seen (take count (journal_text story.seen.names goes.fresh)) read f w,
+  wrote_entries earlier settings old report mid written text (lines.Event e) story.seen (take count (journal_text report.mode story.seen.names goes.fresh)) read f w,
 )
 
 -- nothing of a line was run
-pub shows_all : (before : List (List ℕ)) (story : Story) (settings : Settings) (cluster : View) (start written : Option (List ℕ)) → Tells before story → Follows story settings cluster start written → ShowsAll before start cluster.journal written
-shows_all before story settings cluster start written tells f = (story, record { tells = tells; cluster = cluster; run = f.run; entries = refl }, f.text)
+pub shows_all : (before : List (List ℕ)) (story : Story) (settings : Settings) (cluster : View) (report : Report) (written : Option (List ℕ)) → Tells before story → Follows story settings cluster report written → ShowsAll before report cluster.journal written
+shows_all before story settings cluster report written tells f = (story, record { tells = tells; cluster = cluster; run = f.run; entries = refl }, f.text)

@@ -8,14 +8,14 @@ use Rattle.std.specs.Io.KnownBytes.{append_known}
 use Rattle.mr_io.specs.Pieces.{WrotePrefix}
 use Rattle.scenario.specs.EntryText.{entry_text}
 use Rattle.scenario.specs.declared.entries.JournalEntry.{JournalEntry}
-use Rattle.scenario.specs.declared.lines.Mode.TheVariants as mode
+use Rattle.scenario.specs.declared.lines.Mode.{Mode}
 use Rattle.mr_shell.proofs.RunLemmas.{texts-append, wrote-more}
 use Rattle.mr_shell.specs.Texts.{ShowsSome, Wrote, texts}
 use Rattle.mr_shell.specs.declared.outcome.End.TheVariants as ends
 
 -- entries up to the one at i were written
-pub some_entries : (names : List (List ℕ)) (entries : List JournalEntry) (i : ℕ) (start written : Option (List ℕ)) → Wrote start written (texts names (take i entries)) → ShowsSome ends.Memory names entries start written
-some_entries names entries i start written w = (take i entries, drop i entries, sym (take-append-drop i entries), w)
+pub some_entries : (mode : Mode) (names : List (List ℕ)) (entries : List JournalEntry) (i : ℕ) (start written : Option (List ℕ)) → Wrote start written (texts mode names (take i entries)) → ShowsSome ends.Memory mode names entries start written
+some_entries mode names entries i start written w = (take i entries, drop i entries, sym (take-append-drop i entries), w)
 
 -- what is known of a result that is an error
 pub at_err : {T E P : Type 0} (r : Result T E) → is_err r ≡ true → OnErr r P → P
@@ -23,15 +23,15 @@ at_err (Ok x) e h = cc
 at_err (Err x) e h = h
 
 -- the text of entries, up to one of them, its own, and what follows
-split_texts : (names : List (List ℕ)) (entries : List JournalEntry) (i : ℕ) (e : JournalEntry) → i < length entries → e ≡ get_or entries i e → texts names entries ≡ texts names (take i entries) ++ (entry_text names mode.Answers e ++ texts names (drop (i + 1) entries))
-split_texts names entries i e h is =
-    ap (texts names) (sym (take-append-drop i entries)) ∙ (texts-append names (take i entries) (drop i entries) ∙ ap (λ (l : List ℕ). texts names (take i entries) ++ l) (ap (texts names) (drop_more entries i e h ∙ ap (λ (x : JournalEntry). x ∷ drop (i + 1) entries) (sym is))))
+split_texts : (mode : Mode) (names : List (List ℕ)) (entries : List JournalEntry) (i : ℕ) (e : JournalEntry) → i < length entries → e ≡ get_or entries i e → texts mode names entries ≡ texts mode names (take i entries) ++ (entry_text names mode e ++ texts mode names (drop (i + 1) entries))
+split_texts mode names entries i e h is =
+    ap (texts mode names) (sym (take-append-drop i entries)) ∙ (texts-append mode names (take i entries) (drop i entries) ∙ ap (λ (l : List ℕ). texts mode names (take i entries) ++ l) (ap (texts mode names) (drop_more entries i e h ∙ ap (λ (x : JournalEntry). x ∷ drop (i + 1) entries) (sym is))))
 
 -- a write failed, of the entry at i
-pub some_text : (names : List (List ℕ)) (entries : List JournalEntry) (i : ℕ) (e : JournalEntry) (text : List ℕ) (start mid written : Option (List ℕ)) → i < length entries → e ≡ get_or entries i e → text ≡ entry_text names mode.Answers e → Wrote start mid (texts names (take i entries)) → WrotePrefix mid written text → ShowsSome ends.Write names entries start written
-some_text names entries i e text start mid written h is shows w p =
-    let shown = texts names (take i entries) in
-    let front : take (length shown + p.0) (texts names entries) ≡ shown ++ take p.0 text =
-    ap (take (length shown + p.0)) (split_texts names entries i e h is) ∙ (take-append-add shown (entry_text names mode.Answers e ++ texts names (drop (i + 1) entries)) p.0
-    ∙ ap (λ (l : List ℕ). shown ++ l) (ap (λ (l : List ℕ). take p.0 (l ++ texts names (drop (i + 1) entries))) (sym shows) ∙ take-append-le p.0 text (texts names (drop (i + 1) entries)) p.1)) in
+pub some_text : (mode : Mode) (names : List (List ℕ)) (entries : List JournalEntry) (i : ℕ) (e : JournalEntry) (text : List ℕ) (start mid written : Option (List ℕ)) → i < length entries → e ≡ get_or entries i e → text ≡ entry_text names mode e → Wrote start mid (texts mode names (take i entries)) → WrotePrefix mid written text → ShowsSome ends.Write mode names entries start written
+some_text mode names entries i e text start mid written h is shows w p =
+    let shown = texts mode names (take i entries) in
+    let front : take (length shown + p.0) (texts mode names entries) ≡ shown ++ take p.0 text =
+    ap (take (length shown + p.0)) (split_texts mode names entries i e h is) ∙ (take-append-add shown (entry_text names mode e ++ texts mode names (drop (i + 1) entries)) p.0
+    ∙ ap (λ (l : List ℕ). shown ++ l) (ap (λ (l : List ℕ). take p.0 (l ++ texts mode names (drop (i + 1) entries))) (sym shows) ∙ take-append-le p.0 text (texts mode names (drop (i + 1) entries)) p.1)) in
     (length shown + p.0, wrote-more start mid written shown (take p.0 text) w p.2 ∙ ap (append_known start) (sym front))

@@ -4,14 +4,14 @@ use Rattle.mr_shell.specs.declared.outcome.End.TheVariants as ends
 
 -- What may end the lines of a piece: a fault of a line, want of memory or a failed write.
 abbrev pub EndsLines : End → Type 0
-EndsLines (ends.Fault fault number) = fault ≡ 1
+EndsLines (ends.Fault fault number) = ⊤
 EndsLines ends.Memory = ⊤
 EndsLines ends.Write = ⊤
 EndsLines _ = ⊥
 
 -- What may end the pieces of a source before its end.
 abbrev pub EndsPieces : End → Type 0
-EndsPieces (ends.Fault fault number) = fault ≡ 1
+EndsPieces (ends.Fault fault number) = ⊤
 EndsPieces ends.Whole = ⊥
 EndsPieces ends.Usage = ⊥
 EndsPieces _ = ⊤

@@ -1,11 +1,12 @@
 use Rattle.std.specs.Prelude.{◌≡◌, ◌≢◌, ◌⊎◌, ℕ, ◌+◌, List, [], ◌∷◌, ◌++◌, Option, length, take, ◌≤◌, Some, None}
 use Rattle.scenario.specs.declared.entries.JournalEntry.{JournalEntry}
+use Rattle.scenario.specs.declared.lines.Mode.{Mode}
 use Rattle.sim_cluster.specs.Cluster.{IsRunOf}
 use Rattle.sim_cluster.specs.View.{View}
 use Rattle.std.specs.Io.KnownBytes.{prepend_known}
 use Rattle.mr_shell.specs.Content.{AreAllLines, AreFirstLines, IsCut}
 use Rattle.mr_shell.specs.Story.{Story, Tells, HasFault}
-use Rattle.mr_shell.specs.Texts.{journal_text, last_line, Wrote}
+use Rattle.mr_shell.specs.Texts.{Report, journal_text, last_line, Wrote}
 use Rattle.mr_shell.specs.declared.outcome.End.{End}
 use Rattle.mr_shell.specs.declared.outcome.End.TheVariants as ends
 
@@ -16,34 +17,35 @@ pub record AreRun (lines : List (List ℕ)) (story : Story) (journal : List Jour
   pub run : IsRunOf story.run cluster
   pub entries : cluster.journal ≡ journal
 
--- The text of a journal, by the names that its transactions have once all lines of a story were read.
-abbrev pub report_of : Story → List JournalEntry → List ℕ
-report_of story journal = journal_text story.seen.names journal
+-- What a report of this mode shows of a journal, by the names that its transactions have once all lines of a story were read.
+abbrev pub report_of : Mode → Story → List JournalEntry → List ℕ
+report_of mode story journal = journal_text mode story.seen.names journal
 
 -- No more bytes than the largest scenario has.
 abbrev pub IsWithinLimit : (taken : List ℕ) → Type 0
 IsWithinLimit taken = length taken ≤ 16777216
 
--- Why a run ends after these lines, given the bytes taken of the source and those that are left.
-abbrev pub EndsAfter : End → (taken : List ℕ) → (left : Option (List ℕ)) → List (List ℕ) → Story → Type 0
-EndsAfter ends.Whole taken left lines story = AreAllLines taken left lines × IsWithinLimit taken
-EndsAfter (ends.Fault fault number) taken left lines story =
-    (line : List ℕ) × AreFirstLines taken left (line ∷ lines) × HasFault story line fault × (number ≡ length lines + 1)
+-- Why a run ends after these lines, given the bytes taken of the source and those that are left, and which
+-- line has which fault.
+abbrev pub EndsAfter : (HasFault : List ℕ → ℕ → Type 0) → End → (taken : List ℕ) → (left : Option (List ℕ)) → List (List ℕ) → Type 0
+EndsAfter HasFault ends.Whole taken left lines = AreAllLines taken left lines × IsWithinLimit taken
+EndsAfter HasFault (ends.Fault fault number) taken left lines =
+    (line : List ℕ) × AreFirstLines taken left (line ∷ lines) × HasFault line fault × (number ≡ length lines + 1)
     × IsWithinLimit taken
-EndsAfter ends.Read taken left lines story = (rest : List ℕ) × IsCut taken lines rest × IsWithinLimit taken
-EndsAfter ends.Size taken left lines story =
+EndsAfter HasFault ends.Read taken left lines = (rest : List ℕ) × IsCut taken lines rest × IsWithinLimit taken
+EndsAfter HasFault ends.Size taken left lines =
     (first rest : List ℕ) × (beyond : ℕ) × (taken ≡ first ++ beyond ∷ []) × (length first ≡ 16777216) × IsCut first lines rest
-EndsAfter _ taken left lines story = ⊥
+EndsAfter HasFault _ taken left lines = ⊥
 
 -- A run ends so, its whole text was written, and then these bytes.
-abbrev pub EndsSaying : (said : List ℕ) → End → (taken : List ℕ) → (left start : Option (List ℕ)) → List JournalEntry → (written : Option (List ℕ)) → Type 0
-EndsSaying said end taken left start journal written =
-    (lines : List (List ℕ)) × (story : Story) × EndsAfter end taken left lines story × AreRun lines story journal
-    × Wrote start written (report_of story journal ++ said)
+abbrev pub EndsSaying : (said : List ℕ) → End → (taken : List ℕ) → (left : Option (List ℕ)) → Report → List JournalEntry → (written : Option (List ℕ)) → Type 0
+EndsSaying said end taken left report journal written =
+    (lines : List (List ℕ)) × (story : Story) × EndsAfter (HasFault story) end taken left lines × AreRun lines story journal
+    × Wrote report.start written (report_of report.mode story journal ++ said)
 
 -- A run that ends so has written its whole text and the last line, where there is one.
-abbrev pub EndsWith : End → (taken : List ℕ) → (left start : Option (List ℕ)) → List JournalEntry → (written : Option (List ℕ)) → Type 0
-EndsWith end taken left start journal written = EndsSaying (last_line end) end taken left start journal written
+abbrev pub EndsWith : End → (taken : List ℕ) → (left : Option (List ℕ)) → Report → List JournalEntry → (written : Option (List ℕ)) → Type 0
+EndsWith end taken left report journal written = EndsSaying (last_line end) end taken left report journal written
 
 -- A line was run after these lines, whose journal was `before`.
 pub record RunsLine (line : List ℕ) (lines : List (List ℕ)) (before : List JournalEntry) (story : Story) (journal : List JournalEntry) : Type 0 where
@@ -53,45 +55,45 @@ pub record RunsLine (line : List ℕ) (lines : List (List ℕ)) (before : List J
 
 -- The lines of a prefix of the journal were written, which has those of every line of the scenario
 -- before the last one.
-abbrev pub ShowsEntries : List ℕ → List (List ℕ) → (start : Option (List ℕ)) → List JournalEntry → (written : Option (List ℕ)) → Type 0
-ShowsEntries line lines start journal written =
+abbrev pub ShowsEntries : List ℕ → List (List ℕ) → Report → List JournalEntry → (written : Option (List ℕ)) → Type 0
+ShowsEntries line lines report journal written =
     (before shown unshown : List JournalEntry) × (story : Story) × RunsLine line lines before story journal
-    × (journal ≡ unshown ++ (shown ++ before)) × Wrote start written (report_of story (shown ++ before))
+    × (journal ≡ unshown ++ (shown ++ before)) × Wrote report.start written (report_of report.mode story (shown ++ before))
 
 -- A prefix of the journal's text was written, which has the lines of every line of the scenario before
 -- the last one.
-abbrev pub ShowsPart : List ℕ → List (List ℕ) → (start : Option (List ℕ)) → List JournalEntry → (written : Option (List ℕ)) → Type 0
-ShowsPart line lines start journal written =
+abbrev pub ShowsPart : List ℕ → List (List ℕ) → Report → List JournalEntry → (written : Option (List ℕ)) → Type 0
+ShowsPart line lines report journal written =
     (before fresh : List JournalEntry) × (count : ℕ) × (story : Story) × RunsLine line lines before story journal
-    × (journal ≡ fresh ++ before) × Wrote start written (report_of story before ++ take count (report_of story fresh))
+    × (journal ≡ fresh ++ before) × Wrote report.start written (report_of report.mode story before ++ take count (report_of report.mode story fresh))
 
 -- All that the lines run so far show was written.
-abbrev pub ShowsAll : List (List ℕ) → (start : Option (List ℕ)) → List JournalEntry → (written : Option (List ℕ)) → Type 0
-ShowsAll lines start journal written = (story : Story) × AreRun lines story journal × Wrote start written (report_of story journal)
+abbrev pub ShowsAll : List (List ℕ) → Report → List JournalEntry → (written : Option (List ℕ)) → Type 0
+ShowsAll lines report journal written = (story : Story) × AreRun lines story journal × Wrote report.start written (report_of report.mode story journal)
 
 -- Memory ran out, while a line was run or between two lines.
-abbrev pub EndsShort : (taken : List ℕ) → (left start : Option (List ℕ)) → List JournalEntry → (written : Option (List ℕ)) → Type 0
-EndsShort taken left start journal written =
+abbrev pub EndsShort : (taken : List ℕ) → (left : Option (List ℕ)) → Report → List JournalEntry → (written : Option (List ℕ)) → Type 0
+EndsShort taken left report journal written =
     IsWithinLimit taken
-    × (((lines : List (List ℕ)) × AreFirstLines taken left lines × ShowsAll lines start journal written)
-    ⊎ ((line : List ℕ) × (lines : List (List ℕ)) × AreFirstLines taken left (line ∷ lines) × ShowsEntries line lines start journal written))
+    × (((lines : List (List ℕ)) × AreFirstLines taken left lines × ShowsAll lines report journal written)
+    ⊎ ((line : List ℕ) × (lines : List (List ℕ)) × AreFirstLines taken left (line ∷ lines) × ShowsEntries line lines report journal written))
 
 -- A write failed, of a line's entries.
-abbrev pub EndsUnwritten : (taken : List ℕ) → (left start : Option (List ℕ)) → List JournalEntry → (written : Option (List ℕ)) → Type 0
-EndsUnwritten taken left start journal written =
+abbrev pub EndsUnwritten : (taken : List ℕ) → (left : Option (List ℕ)) → Report → List JournalEntry → (written : Option (List ℕ)) → Type 0
+EndsUnwritten taken left report journal written =
     IsWithinLimit taken
-    × (line : List ℕ) × (lines : List (List ℕ)) × AreFirstLines taken left (line ∷ lines) × ShowsPart line lines start journal written
+    × (line : List ℕ) × (lines : List (List ℕ)) × AreFirstLines taken left (line ∷ lines) × ShowsPart line lines report journal written
 
 -- A write failed, of the line that says why the run ends.
-abbrev pub EndsUnsaid : (taken : List ℕ) → (left start : Option (List ℕ)) → List JournalEntry → (written : Option (List ℕ)) → Type 0
-EndsUnsaid taken left start journal written =
-    (end : End) × (count : ℕ) × EndsSaying (take count (last_line end)) end taken left start journal written
+abbrev pub EndsUnsaid : (taken : List ℕ) → (left : Option (List ℕ)) → Report → List JournalEntry → (written : Option (List ℕ)) → Type 0
+EndsUnsaid taken left report journal written =
+    (end : End) × (count : ℕ) × EndsSaying (take count (last_line end)) end taken left report journal written
 
 -- How a run has ended, and what was written then.
-abbrev pub HasEnded : End → (taken : List ℕ) → (left start : Option (List ℕ)) → List JournalEntry → (written : Option (List ℕ)) → Type 0
-HasEnded ends.Memory taken left start journal written = EndsShort taken left start journal written
-HasEnded ends.Write taken left start journal written = EndsUnwritten taken left start journal written ⊎ EndsUnsaid taken left start journal written
-HasEnded end taken left start journal written = EndsWith end taken left start journal written
+abbrev pub HasEnded : End → (taken : List ℕ) → (left : Option (List ℕ)) → Report → List JournalEntry → (written : Option (List ℕ)) → Type 0
+HasEnded ends.Memory taken left report journal written = EndsShort taken left report journal written
+HasEnded ends.Write taken left report journal written = EndsUnwritten taken left report journal written ⊎ EndsUnsaid taken left report journal written
+HasEnded end taken left report journal written = EndsWith end taken left report journal written
 
 -- Some bytes were taken of a source, and P holds of them.
 abbrev pub AfterTaking : (old new : Option (List ℕ)) → (List ℕ → Type 0) → Type 0

@@ -13,7 +13,7 @@ use Rattle.sim_cluster.specs.View.{View}
 use Rattle.mr_shell.specs.Content.{BeginsWith, IsCut}
 use Rattle.mr_shell.specs.Run.{AreRun, report_of, ShowsAll, ShowsEntries, ShowsPart, EndsSaying, EndsShort, EndsUnwritten}
 use Rattle.mr_shell.specs.Story.{Story, Tells, HasFault}
-use Rattle.mr_shell.specs.Texts.{Wrote}
+use Rattle.mr_shell.specs.Texts.{Report, Wrote}
 use Rattle.mr_shell.specs.declared.outcome.End.{End}
 use Rattle.mr_shell.specs.declared.outcome.End.TheVariants as ends
 use Rattle.mr_shell.specs.declared.session.Session.{Session}
@@ -32,51 +32,41 @@ MayRun settings seen cluster (lines.Event e) = AreSettings settings × IsStep cl
 MayRun settings seen cluster _ = IsReady settings seen cluster.journal
 
 -- The cluster has run what a story tells, and its journal's text was written, to a sink that held `start`.
-pub record Follows (story : Story) (settings : Settings) (cluster : View) (start written : Option (List ℕ)) : Type 0 where
+pub record Follows (story : Story) (settings : Settings) (cluster : View) (report : Report) (written : Option (List ℕ)) : Type 0 where
   pub made : settings ≡ story.run.settings
   pub run : IsRunOf story.run cluster
   pub names : NamesOnly (λ t. t.0 < length story.seen.names) cluster.journal
-  pub text : Wrote start written (report_of story cluster.journal)
+  pub text : Wrote report.start written (report_of report.mode story cluster.journal)
 
--- A session once these lines were read and run, the newest first, none of them with a fault.
-pub record HasRun (lines : List (List ℕ)) (start : Option (List ℕ)) (session : Session) (written : Option (List ℕ)) : Type 0 where
+-- A session that makes this report, once these lines were read and run, the newest first, none of them with a fault.
+pub record HasRun (report : Report) (lines : List (List ℕ)) (session : Session) (written : Option (List ℕ)) : Type 0 where
   pub story : Story
   pub tells : Tells lines story
   pub seen : session.scenario ≡ story.seen
+  pub shown : session.mode ≡ report.mode
   pub number : session.lines ≡ length lines
-  pub follows : Follows story session.settings session.cluster start written
+  pub follows : Follows story session.settings session.cluster report written
 
 -- The same once the next line was read so, and before it is run.
-pub record HasRead (line : Line) (text : List ℕ) (lines : List (List ℕ)) (start : Option (List ℕ)) (session : Session) (written : Option (List ℕ)) : Type 0 where
+pub record HasRead (report : Report) (line : Line) (text : List ℕ) (lines : List (List ℕ)) (session : Session) (written : Option (List ℕ)) : Type 0 where
   pub story : Story
   pub tells : Tells lines story
   pub read : Reads story.seen text line session.scenario
+  pub shown : session.mode ≡ report.mode
   pub number : session.lines ≡ length lines + 1
-  pub follows : Follows story session.settings session.cluster start written
-
--- A session of which these bytes were taken: their lines were run, and the rest waits for its end.
-pub record HasTaken (taken : List ℕ) (start : Option (List ℕ)) (session : Session) (pending : List ℕ) (written : Option (List ℕ)) : Type 0 where
-  pub lines : List (List ℕ)
-  pub cut : IsCut taken lines pending
-  pub run : HasRun lines start session written
+  pub follows : Follows story session.settings session.cluster report written
 
 -- Why a line ends the run, and what was written then.
-abbrev pub StopsAt : End → List ℕ → List (List ℕ) → (start : Option (List ℕ)) → List JournalEntry → (written : Option (List ℕ)) → Type 0
-StopsAt (ends.Fault fault number) text lines start journal written =
+abbrev pub StopsAt : Report → End → List ℕ → List (List ℕ) → List JournalEntry → (written : Option (List ℕ)) → Type 0
+StopsAt report (ends.Fault fault number) text lines journal written =
     (number ≡ length lines + 1)
-    × (story : Story) × HasFault story text fault × AreRun lines story journal × Wrote start written (report_of story journal)
-StopsAt ends.Memory text lines start journal written = ShowsAll lines start journal written ⊎ ShowsEntries text lines start journal written
-StopsAt ends.Write text lines start journal written = ShowsPart text lines start journal written
-StopsAt _ text lines start journal written = ⊥
-
--- Why a run ends while these bytes are run, and what was written then.
-abbrev pub StopsWithin : End → (taken : List ℕ) → (start : Option (List ℕ)) → List JournalEntry → (written : Option (List ℕ)) → Type 0
-StopsWithin end taken start journal written =
-    ((text : List ℕ) × (lines : List (List ℕ)) × BeginsWith taken (text ∷ lines) × StopsAt end text lines start journal written)
-    ⊎ ((end ≡ ends.Memory) × (lines : List (List ℕ)) × BeginsWith taken lines × ShowsAll lines start journal written)
+    × (story : Story) × HasFault story text fault × AreRun lines story journal × Wrote report.start written (report_of report.mode story journal)
+StopsAt report ends.Memory text lines journal written = ShowsAll lines report journal written ⊎ ShowsEntries text lines report journal written
+StopsAt report ends.Write text lines journal written = ShowsPart text lines report journal written
+StopsAt report _ text lines journal written = ⊥
 
 -- Why a run ends, before anything is said of it, and what was written then.
-abbrev pub Stops : End → (taken : List ℕ) → (left start : Option (List ℕ)) → List JournalEntry → (written : Option (List ℕ)) → Type 0
-Stops ends.Memory taken left start journal written = EndsShort taken left start journal written
-Stops ends.Write taken left start journal written = EndsUnwritten taken left start journal written
-Stops end taken left start journal written = EndsSaying [] end taken left start journal written
+abbrev pub Stops : End → (taken : List ℕ) → (left : Option (List ℕ)) → Report → List JournalEntry → (written : Option (List ℕ)) → Type 0
+Stops ends.Memory taken left report journal written = EndsShort taken left report journal written
+Stops ends.Write taken left report journal written = EndsUnwritten taken left report journal written
+Stops end taken left report journal written = EndsSaying [] end taken left report journal written

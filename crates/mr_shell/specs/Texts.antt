@@ -3,17 +3,25 @@ use Rattle.std.specs.Io.KnownBytes.{append_known}
 use Rattle.std.specs.List.{flat_map}
 use Rattle.scenario.specs.EntryText.{entry_text}
 use Rattle.scenario.specs.declared.entries.JournalEntry.{JournalEntry}
-use Rattle.scenario.specs.declared.lines.Mode.TheVariants as mode
+use Rattle.scenario.specs.declared.lines.Mode.{Mode}
 use Rattle.mr_shell.specs.declared.outcome.End.{End}
 use Rattle.mr_shell.specs.declared.outcome.End.TheVariants as ends
 
--- The answers of these entries, given the names of the transactions.
-abbrev pub texts : List (List ℕ) → List JournalEntry → List ℕ
-texts names entries = flat_map (entry_text names mode.Answers) entries
+-- What a report shows, and what its sink held before.
+pub record Report : Type 0 where
+  pub mode : Mode
+  pub start : Option (List ℕ)
 
--- The answers of a journal, whose newest entry stands first.
-abbrev pub journal_text : List (List ℕ) → List JournalEntry → List ℕ
-journal_text names journal = texts names (reverse journal)
+abbrev pub report_to : Mode → (start : Option (List ℕ)) → Report
+report_to mode start = record { mode = mode; start = start }
+
+-- What a report of this mode shows of these entries, given the names of the transactions.
+abbrev pub texts : Mode → List (List ℕ) → List JournalEntry → List ℕ
+texts mode names entries = flat_map (entry_text names mode) entries
+
+-- What it shows of a journal, whose newest entry stands first.
+abbrev pub journal_text : Mode → List (List ℕ) → List JournalEntry → List ℕ
+journal_text mode names journal = texts mode names (reverse journal)
 
 -- What a sink that held `start` has been given since.
 abbrev pub Wrote : (start written : Option (List ℕ)) → List ℕ → Type 0
@@ -21,11 +29,11 @@ Wrote start written text = written ≡ append_known start text
 
 -- Where the writing of entries, the oldest first, stops: for want of memory between two of them, for a
 -- failed write anywhere.
-abbrev pub ShowsSome : End → List (List ℕ) → List JournalEntry → (start written : Option (List ℕ)) → Type 0
-ShowsSome ends.Memory names entries start written =
-    (shown unshown : List JournalEntry) × (entries ≡ shown ++ unshown) × Wrote start written (texts names shown)
-ShowsSome ends.Write names entries start written = (count : ℕ) × Wrote start written (take count (texts names entries))
-ShowsSome _ names entries start written = ⊥
+abbrev pub ShowsSome : End → Mode → List (List ℕ) → List JournalEntry → (start written : Option (List ℕ)) → Type 0
+ShowsSome ends.Memory mode names entries start written =
+    (shown unshown : List JournalEntry) × (entries ≡ shown ++ unshown) × Wrote start written (texts mode names shown)
+ShowsSome ends.Write mode names entries start written = (count : ℕ) × Wrote start written (take count (texts mode names entries))
+ShowsSome _ mode names entries start written = ⊥
 
 -- The line that says why a run ends, where there is one.
 abbrev pub last_line : End → List ℕ

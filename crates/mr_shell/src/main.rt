@@ -5,8 +5,10 @@ mod commands;
 mod outcome;
 mod pieces;
 mod report;
+mod runner;
 mod session;
 mod top;
+mod zones_session;
 
 use mr_io::{StdSink, StdSource};
 use outcome::MEMORY;

@@ -5,11 +5,12 @@ ghost use Rattle.std.specs.Io.KnownBytes.{IsAtEnd, prepend_known};
 ghost use Rattle.mr_io.specs.Faults.{CountsFault};
 ghost use Rattle.mr_shell.specs.Content.{IsContent};
 ghost use Rattle.mr_shell.specs.Ends.{EndsLines, EndsPieces};
+ghost use Rattle.mr_shell.specs.Pieces.{HasTaken, Stops, StopsWithin};
 ghost use Rattle.mr_shell.specs.Run.{AfterTaking, IsWithinLimit};
-ghost use Rattle.mr_shell.specs.Session.{IsReady, HasRun, HasTaken, Stops, StopsWithin};
+ghost use Rattle.mr_shell.specs.Texts.{Report};
 
 use crate::outcome::End;
-use crate::session::Session;
+use crate::runner::Runner;
 use mr_base::{Memory, before_tail};
 use mr_io::{Failed, Sink, Source};
 use std::alloc::Global;
@@ -30,16 +31,15 @@ fn new_buffer(alloc: Global) -> Result<Vec<u8>, Memory>
 
 /// Runs the lines of a source, one after the other, and says why the run ends. A further piece is asked
 /// for only once every whole line taken so far was run.
-pub fn run_source<S: Source, K: Sink>(
+pub fn run_source<R: Runner, S: Source, K: Sink>(
     alloc: Global,
-    session: &mut Session,
+    runner: &mut R,
     source: &mut S,
     sink: &mut K,
 ) -> Result<(), End>
-    requires ready { IsReady session.old.settings session.old.scenario session.old.cluster.journal }
-    requires unread { HasRun [] (K.written sink.old) session.old (K.written sink.old) }
-    ensures whole { OnOk result (AfterTaking (S.left source.old) (S.left source.new) (λ taken. Stops End.Whole taken (S.left source.new) (K.written sink.old) session.new.cluster.journal (K.written sink.new))) }
-    ensures stops { IfErr result (λ e. AfterTaking (S.left source.old) (S.left source.new) (λ taken. Stops e taken (S.left source.new) (K.written sink.old) session.new.cluster.journal (K.written sink.new))) }
+    requires ready { R.is_ready runner.old }
+    ensures whole { OnOk result ((report : Report) → R.has_run report [] runner.old (K.written sink.old) → AfterTaking (S.left source.old) (S.left source.new) (λ taken. Stops (R.has_run report) (R.stops_at report) End.Whole taken (S.left source.new) runner.new (K.written sink.new))) }
+    ensures stops { IfErr result (λ e. (report : Report) → R.has_run report [] runner.old (K.written sink.old) → AfterTaking (S.left source.old) (S.left source.new) (λ taken. Stops (R.has_run report) (R.stops_at report) e taken (S.left source.new) runner.new (K.written sink.new))) }
     ensures ends { IfErr result EndsPieces }
     ensures read_failed { result ≡ Err End.Read → CountsFault (S.faults source.old) (S.faults source.new) S.most_faults }
     ensures write_failed { result ≡ Err End.Write → CountsFault (K.faults sink.old) (K.faults sink.new) K.most_faults }
@@ -47,30 +47,23 @@ pub fn run_source<S: Source, K: Sink>(
 {
     match new_buffer(alloc) {
         Err(_) => Err(End::Memory),
-        Ok(mut buffer) => run_pieces(
-            session,
-            buffer.as_mut_slice(),
-            Vec::new(alloc),
-            source,
-            sink,
-        ),
+        Ok(mut buffer) => run_pieces(runner, buffer.as_mut_slice(), Vec::new(alloc), source, sink),
     }
 }
 
 /// Runs the pieces of a source to its end.
-fn run_pieces<S: Source, K: Sink>(
-    session: &mut Session,
+fn run_pieces<R: Runner, S: Source, K: Sink>(
+    runner: &mut R,
     buffer: &mut [u8],
     mut pending: Vec<u8>,
     source: &mut S,
     sink: &mut K,
 ) -> Result<(), End>
-    requires ready { IsReady session.old.settings session.old.scenario session.old.cluster.journal }
-    requires unread { HasRun [] (K.written sink.old) session.old (K.written sink.old) }
+    requires ready { R.is_ready runner.old }
     requires room { length buffer.old ≡ 65536 }
     requires empty { pending.items ≡ [] }
-    ensures whole { OnOk result (AfterTaking (S.left source.old) (S.left source.new) (λ taken. Stops End.Whole taken (S.left source.new) (K.written sink.old) session.new.cluster.journal (K.written sink.new))) }
-    ensures stops { IfErr result (λ e. AfterTaking (S.left source.old) (S.left source.new) (λ taken. Stops e taken (S.left source.new) (K.written sink.old) session.new.cluster.journal (K.written sink.new))) }
+    ensures whole { OnOk result ((report : Report) → R.has_run report [] runner.old (K.written sink.old) → AfterTaking (S.left source.old) (S.left source.new) (λ taken. Stops (R.has_run report) (R.stops_at report) End.Whole taken (S.left source.new) runner.new (K.written sink.new))) }
+    ensures stops { IfErr result (λ e. (report : Report) → R.has_run report [] runner.old (K.written sink.old) → AfterTaking (S.left source.old) (S.left source.new) (λ taken. Stops (R.has_run report) (R.stops_at report) e taken (S.left source.new) runner.new (K.written sink.new))) }
     ensures ends { IfErr result EndsPieces }
     ensures read_failed { result ≡ Err End.Read → CountsFault (S.faults source.old) (S.faults source.new) S.most_faults }
     ensures write_failed { result ≡ Err End.Write → CountsFault (K.faults sink.old) (K.faults sink.new) K.most_faults }
@@ -80,13 +73,13 @@ fn run_pieces<S: Source, K: Sink>(
     'pieces: loop {
         let count = read_piece(source, buffer, taken)?;
         if count == 0 {
-            return run_last(session, pending.as_slice(), sink);
+            return run_last(runner, pending.as_slice(), sink);
         }
         if taken == LARGEST {
             return Err(End::Size);
         }
         taken += count;
-        run_piece(session, &mut pending, &buffer[..count], sink)?;
+        run_piece(runner, &mut pending, &buffer[..count], sink)?;
     }
 }
 
@@ -116,36 +109,36 @@ fn read_piece<S: Source>(source: &mut S, buffer: &mut [u8], taken: usize) -> Res
 }
 
 /// Runs the lines that end within a piece; `pending` is what was taken of the line that has no end yet.
-fn run_piece<K: Sink>(
-    session: &mut Session,
+fn run_piece<R: Runner, K: Sink>(
+    runner: &mut R,
     pending: &mut Vec<u8>,
     piece: &[u8],
     sink: &mut K,
 ) -> Result<(), End>
-    requires { IsReady session.old.settings session.old.scenario session.old.cluster.journal }
-    ensures ready { OnOk result (IsReady session.new.settings session.new.scenario session.new.cluster.journal) }
-    ensures runs { OnOk result ((taken : List ℕ) (start : Option (List ℕ)) → HasTaken taken start session.old pending.old.items (K.written sink.old) → HasTaken (taken ++ piece.now) start session.new pending.new.items (K.written sink.new)) }
-    ensures stops { IfErr result (λ e. (taken : List ℕ) (start : Option (List ℕ)) → HasTaken taken start session.old pending.old.items (K.written sink.old) → StopsWithin e (taken ++ piece.now) start session.new.cluster.journal (K.written sink.new)) }
+    requires { R.is_ready runner.old }
+    ensures ready { OnOk result (R.is_ready runner.new) }
+    ensures runs { OnOk result ((report : Report) (taken : List ℕ) → HasTaken (R.has_run report) taken runner.old pending.old.items (K.written sink.old) → HasTaken (R.has_run report) (taken ++ piece.now) runner.new pending.new.items (K.written sink.new)) }
+    ensures stops { IfErr result (λ e. (report : Report) (taken : List ℕ) → HasTaken (R.has_run report) taken runner.old pending.old.items (K.written sink.old) → StopsWithin (R.has_run report) (R.stops_at report) e (taken ++ piece.now) runner.new (K.written sink.new)) }
     ensures ends { IfErr result EndsLines }
     ensures failed { result ≡ Err End.Write → CountsFault (K.faults sink.old) (K.faults sink.new) K.most_faults }
     ensures never_falls { K.faults sink.old ≤ K.faults sink.new }
 {
     for byte in piece {
-        run_byte(session, pending, *byte, sink)?;
+        run_byte(runner, pending, *byte, sink)?;
     }
     Ok(())
 }
 
-fn run_byte<K: Sink>(
-    session: &mut Session,
+fn run_byte<R: Runner, K: Sink>(
+    runner: &mut R,
     pending: &mut Vec<u8>,
     byte: u8,
     sink: &mut K,
 ) -> Result<(), End>
-    requires { IsReady session.old.settings session.old.scenario session.old.cluster.journal }
-    ensures ready { OnOk result (IsReady session.new.settings session.new.scenario session.new.cluster.journal) }
-    ensures runs { OnOk result ((taken : List ℕ) (start : Option (List ℕ)) → HasTaken taken start session.old pending.old.items (K.written sink.old) → HasTaken (taken ++ byte ∷ []) start session.new pending.new.items (K.written sink.new)) }
-    ensures stops { IfErr result (λ e. (taken : List ℕ) (start : Option (List ℕ)) → HasTaken taken start session.old pending.old.items (K.written sink.old) → StopsWithin e (taken ++ byte ∷ []) start session.new.cluster.journal (K.written sink.new)) }
+    requires { R.is_ready runner.old }
+    ensures ready { OnOk result (R.is_ready runner.new) }
+    ensures runs { OnOk result ((report : Report) (taken : List ℕ) → HasTaken (R.has_run report) taken runner.old pending.old.items (K.written sink.old) → HasTaken (R.has_run report) (taken ++ byte ∷ []) runner.new pending.new.items (K.written sink.new)) }
+    ensures stops { IfErr result (λ e. (report : Report) (taken : List ℕ) → HasTaken (R.has_run report) taken runner.old pending.old.items (K.written sink.old) → StopsWithin (R.has_run report) (R.stops_at report) e (taken ++ byte ∷ []) runner.new (K.written sink.new)) }
     ensures ends { IfErr result EndsLines }
     ensures failed { result ≡ Err End.Write → CountsFault (K.faults sink.old) (K.faults sink.new) K.most_faults }
     ensures never_falls { K.faults sink.old ≤ K.faults sink.new }
@@ -156,17 +149,17 @@ fn run_byte<K: Sink>(
             Err(_) => Err(End::Memory),
         };
     }
-    session.run_line(content(pending.as_slice()), sink)?;
+    runner.run_next(content(pending.as_slice()), sink)?;
     pending.clear();
     Ok(())
 }
 
 /// Runs what stands after the last line feed of a source that has ended, if anything does: a line too,
 /// of which a carriage return at its end is a part, since no line feed follows.
-fn run_last<K: Sink>(session: &mut Session, pending: &[u8], sink: &mut K) -> Result<(), End>
-    requires { IsReady session.old.settings session.old.scenario session.old.cluster.journal }
-    ensures whole { OnOk result ((taken : List ℕ) (left start : Option (List ℕ)) → HasTaken taken start session.old pending.now (K.written sink.old) → IsAtEnd left → IsWithinLimit taken → Stops End.Whole taken left start session.new.cluster.journal (K.written sink.new)) }
-    ensures stops { IfErr result (λ e. (taken : List ℕ) (left start : Option (List ℕ)) → HasTaken taken start session.old pending.now (K.written sink.old) → IsAtEnd left → IsWithinLimit taken → Stops e taken left start session.new.cluster.journal (K.written sink.new)) }
+fn run_last<R: Runner, K: Sink>(runner: &mut R, pending: &[u8], sink: &mut K) -> Result<(), End>
+    requires { R.is_ready runner.old }
+    ensures whole { OnOk result ((report : Report) (taken : List ℕ) (left : Option (List ℕ)) → HasTaken (R.has_run report) taken runner.old pending.now (K.written sink.old) → IsAtEnd left → IsWithinLimit taken → Stops (R.has_run report) (R.stops_at report) End.Whole taken left runner.new (K.written sink.new)) }
+    ensures stops { IfErr result (λ e. (report : Report) (taken : List ℕ) (left : Option (List ℕ)) → HasTaken (R.has_run report) taken runner.old pending.now (K.written sink.old) → IsAtEnd left → IsWithinLimit taken → Stops (R.has_run report) (R.stops_at report) e taken left runner.new (K.written sink.new)) }
     ensures ends { IfErr result EndsLines }
     ensures failed { result ≡ Err End.Write → CountsFault (K.faults sink.old) (K.faults sink.new) K.most_faults }
     ensures never_falls { K.faults sink.old ≤ K.faults sink.new }
@@ -174,7 +167,7 @@ fn run_last<K: Sink>(session: &mut Session, pending: &[u8], sink: &mut K) -> Res
     if pending.is_empty() {
         return Ok(());
     }
-    session.run_line(pending, sink)
+    runner.run_next(pending, sink)
 }
 
 /// The line that ends where a line feed follows these bytes.

@@ -9,12 +9,15 @@ ghost use Rattle.mr_base.specs.declared.nodes.NodeInfo.{NodeInfo};
 ghost use Rattle.mr_io.specs.Faults.{CountsFault};
 ghost use Rattle.mr_shell.specs.Ends.{EndsLines};
 ghost use Rattle.mr_shell.specs.Session.{IsReady, MayRun, HasRun, HasRead, StopsAt};
+ghost use Rattle.mr_shell.specs.Texts.{Report, report_to};
+ghost use Rattle.scenario.specs.declared.lines.Mode.{Mode};
 
 use crate::outcome::End;
 use crate::report::{entries_after, write_entries};
+use crate::runner::Runner;
 use mr_base::Settings;
 use mr_io::Sink;
-use scenario::{Event, FirstPath, Journal, Line, LineFault, NoWorld, standard_settings};
+use scenario::{Event, FirstPath, Journal, Line, LineFault, Mode, NoWorld, standard_settings};
 use sim_cluster::Cluster;
 use std::alloc::Global;
 
@@ -22,6 +25,7 @@ use std::alloc::Global;
 #[derive(Drop)]
 pub struct Session {
     alloc: Global,
+    mode: Mode,
     scenario: FirstPath,
     settings: Settings,
     cluster: Cluster,
@@ -31,14 +35,15 @@ pub struct Session {
 impl Session {
     ghost use Rattle.mr_base.specs.declared.nodes.NodeInfo.{NodeInfo};
 
-    /// A run of which no line was read yet.
-    pub fn new(alloc: Global) -> Session
+    /// A run of which no line was read yet, and whose report has this mode.
+    pub fn new(alloc: Global, mode: Mode) -> Session
         ensures ready { IsReady result.settings result.scenario result.cluster.journal }
-        ensures unread { (start : Option (List ℕ)) → HasRun [] start result start }
+        ensures unread { (start : Option (List ℕ)) → HasRun (report_to mode start) [] result start }
     {
         let settings = standard_settings();
         Session {
             alloc,
+            mode,
             scenario: FirstPath::new(alloc, false),
             settings,
             cluster: Cluster::new(alloc, settings, 0),
@@ -52,6 +57,7 @@ impl Session {
     {
         let Session {
             alloc,
+            mode: _,
             scenario: _,
             settings: _,
             cluster,
@@ -64,8 +70,8 @@ impl Session {
     pub fn run_line<K: Sink>(&mut self, line: &[u8], sink: &mut K) -> Result<(), End>
         requires { IsReady self.old.settings self.old.scenario self.old.cluster.journal }
         ensures ready { OnOk result (IsReady self.new.settings self.new.scenario self.new.cluster.journal) }
-        ensures runs { OnOk result ((before : List (List ℕ)) (start : Option (List ℕ)) → HasRun before start self.old (K.written sink.old) → HasRun (line.now ∷ before) start self.new (K.written sink.new)) }
-        ensures stops { IfErr result (λ e. (before : List (List ℕ)) (start : Option (List ℕ)) → HasRun before start self.old (K.written sink.old) → StopsAt e line.now before start self.new.cluster.journal (K.written sink.new)) }
+        ensures runs { OnOk result ((report : Report) (before : List (List ℕ)) → HasRun report before self.old (K.written sink.old) → HasRun report (line.now ∷ before) self.new (K.written sink.new)) }
+        ensures stops { IfErr result (λ e. (report : Report) (before : List (List ℕ)) → HasRun report before self.old (K.written sink.old) → StopsAt report e line.now before self.new.cluster.journal (K.written sink.new)) }
         ensures ends { IfErr result EndsLines }
         ensures failed { result ≡ Err End.Write → CountsFault (K.faults sink.old) (K.faults sink.new) K.most_faults }
         ensures never_falls { K.faults sink.old ≤ K.faults sink.new }
@@ -90,8 +96,8 @@ impl Session {
     fn run<K: Sink>(&mut self, line: Line, sink: &mut K) -> Result<(), End>
         requires { MayRun self.old.settings self.old.scenario self.old.cluster line }
         ensures ready { OnOk result (IsReady self.new.settings self.new.scenario self.new.cluster.journal) }
-        ensures runs { OnOk result ((text : List ℕ) (before : List (List ℕ)) (start : Option (List ℕ)) → HasRead line text before start self.old (K.written sink.old) → HasRun (text ∷ before) start self.new (K.written sink.new)) }
-        ensures stops { IfErr result (λ e. (text : List ℕ) (before : List (List ℕ)) (start : Option (List ℕ)) → HasRead line text before start self.old (K.written sink.old) → StopsAt e text before start self.new.cluster.journal (K.written sink.new)) }
+        ensures runs { OnOk result ((report : Report) (text : List ℕ) (before : List (List ℕ)) → HasRead report line text before self.old (K.written sink.old) → HasRun report (text ∷ before) self.new (K.written sink.new)) }
+        ensures stops { IfErr result (λ e. (report : Report) (text : List ℕ) (before : List (List ℕ)) → HasRead report line text before self.old (K.written sink.old) → StopsAt report e text before self.new.cluster.journal (K.written sink.new)) }
         ensures ends { IfErr result EndsLines }
         ensures failed { result ≡ Err End.Write → CountsFault (K.faults sink.old) (K.faults sink.new) K.most_faults }
         ensures never_falls { K.faults sink.old ≤ K.faults sink.new }
@@ -116,7 +122,7 @@ impl Session {
         requires unbegun { self.old.scenario.expected ≢ expecteds.Transaction }
         requires empty { self.old.cluster.journal ≡ [] }
         ensures ready { IsReady self.new.settings self.new.scenario self.new.cluster.journal }
-        ensures runs { (text : List ℕ) (before : List (List ℕ)) (start written : Option (List ℕ)) → HasRead (lines.Cluster settings) text before start self.old written → HasRun (text ∷ before) start self.new written }
+        ensures runs { (report : Report) (text : List ℕ) (before : List (List ℕ)) (written : Option (List ℕ)) → HasRead report (lines.Cluster settings) text before self.old written → HasRun report (text ∷ before) self.new written }
     {
         self.settings = settings;
         self.cluster = Cluster::new(self.alloc, settings, 0);
@@ -129,7 +135,7 @@ impl Session {
         requires unbegun { self.old.scenario.expected ≢ expecteds.Transaction }
         requires empty { self.old.cluster.journal ≡ [] }
         ensures ready { IsReady self.new.settings self.new.scenario self.new.cluster.journal }
-        ensures runs { (info : NodeInfo) (text : List ℕ) (before : List (List ℕ)) (start written : Option (List ℕ)) → HasRead (lines.Node info clock) text before start self.old written → HasRun (text ∷ before) start self.new written }
+        ensures runs { (info : NodeInfo) (report : Report) (text : List ℕ) (before : List (List ℕ)) (written : Option (List ℕ)) → HasRead report (lines.Node info clock) text before self.old written → HasRun report (text ∷ before) self.new written }
     {
         self.cluster = Cluster::new(self.alloc, self.settings, clock);
     }
@@ -140,8 +146,8 @@ impl Session {
         requires step { IsStep self.old.cluster event.now }
         requires begun { self.old.scenario.expected ≡ expecteds.Transaction }
         ensures ready { OnOk result (IsReady self.new.settings self.new.scenario self.new.cluster.journal) }
-        ensures runs { OnOk result ((text : List ℕ) (before : List (List ℕ)) (start : Option (List ℕ)) → HasRead (lines.Event event.now) text before start self.old (K.written sink.old) → HasRun (text ∷ before) start self.new (K.written sink.new)) }
-        ensures stops { IfErr result (λ e. (text : List ℕ) (before : List (List ℕ)) (start : Option (List ℕ)) → HasRead (lines.Event event.now) text before start self.old (K.written sink.old) → StopsAt e text before start self.new.cluster.journal (K.written sink.new)) }
+        ensures runs { OnOk result ((report : Report) (text : List ℕ) (before : List (List ℕ)) → HasRead report (lines.Event event.now) text before self.old (K.written sink.old) → HasRun report (text ∷ before) self.new (K.written sink.new)) }
+        ensures stops { IfErr result (λ e. (report : Report) (text : List ℕ) (before : List (List ℕ)) → HasRead report (lines.Event event.now) text before self.old (K.written sink.old) → StopsAt report e text before self.new.cluster.journal (K.written sink.new)) }
         ensures ends { IfErr result EndsLines }
         ensures failed { result ≡ Err End.Write → CountsFault (K.faults sink.old) (K.faults sink.new) K.most_faults }
         ensures never_falls { K.faults sink.old ≤ K.faults sink.new }
@@ -149,6 +155,20 @@ impl Session {
         let made = self.cluster.journal().len();
         self.cluster.step(self.lines, event)?;
         let fresh = entries_after(self.cluster.journal(), made);
-        write_entries(self.alloc, self.scenario.names(), fresh, sink)
+        write_entries(self.alloc, self.scenario.names(), fresh, self.mode, sink)
+    }
+}
+
+impl Runner for Session {
+    ghost use Rattle.mr_shell.specs.Session.{IsReady, HasRun, StopsAt};
+
+    ghost is_ready = { λ s. IsReady s.settings s.scenario s.cluster.journal };
+
+    ghost has_run = { λ report lines s written. HasRun report lines s written };
+
+    ghost stops_at = { λ report end text lines s written. StopsAt report end text lines s.cluster.journal written };
+
+    fn run_next<K: Sink>(&mut self, line: &[u8], sink: &mut K) -> Result<(), End> {
+        self.run_line(line, sink)
     }
 }

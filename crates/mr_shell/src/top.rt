@@ -1,12 +1,16 @@
 //! The call that the program makes.
 
-ghost use Rattle.std.specs.Prelude.{◌≡◌, ◌↔◌, ◌≤◌, ◌<◌, ◌⊎◌, ℕ, List, [], take};
+ghost use Rattle.std.specs.Prelude.{◌≡◌, ◌≢◌, ◌≤◌, ◌<◌, ◌⊎◌, ℕ, List, [], None, take};
 ghost use Rattle.mr_io.specs.Faults.{CountsFault};
 ghost use Rattle.mr_shell.specs.Ends.{IsStatus, EndsPieces, status_of};
 ghost use Rattle.mr_shell.specs.Run.{AfterTaking, AreRun, EndsWith, EndsShort, HasEnded, IsFaultless, IsFaulty, IsTooLarge};
 ghost use Rattle.mr_shell.specs.Story.{Story};
-ghost use Rattle.mr_shell.specs.Texts.{IsTold, Says, Wrote, last_line, usage_line};
-ghost use Rattle.mr_shell.specs.Words.{IsRun};
+ghost use Rattle.mr_shell.specs.Texts.{IsTold, Says, Wrote, last_line, report_to, usage_line};
+ghost use Rattle.mr_shell.specs.Words.{Ask, command_of};
+ghost use Rattle.mr_shell.specs.declared.commands.Command.TheVariants.{Run, Zones as ZonesIn};
+ghost use Rattle.mr_shell.specs.ZoneRun.{ZonesEnd, ZonesEndShort, ZonesHaveEnded};
+ghost use Rattle.zone_report.specs.declared.report.Format.{Format as AnyFormat};
+ghost use Rattle.scenario.specs.declared.lines.Mode.{Mode as AnyMode};
 ghost use Rattle.mr_shell.specs.declared.outcome.End.{End};
 ghost use Rattle.run_laws.specs.Answered.{AreAnswered};
 ghost use Rattle.run_laws.specs.Serial.{IsSerial};
@@ -16,10 +20,12 @@ use crate::commands::{Command, command_of};
 use crate::outcome::{End, Outcome};
 use crate::pieces::run_source;
 use crate::session::Session;
+use crate::zones_session::ZonesSession;
 use mr_io::{Sink, Source, write_all};
 use run_laws::{lawful_is_serial, lawful_is_visible};
-use scenario::Journal;
+use scenario::{Journal, Mode};
 use std::alloc::Global;
+use zone_report::Format;
 
 /// The line of a usage fault.
 const USAGE: &str =
@@ -36,35 +42,48 @@ pub fn top<S: Source, K: Sink>(
     // Nothing else is answered.
     ensures statuses { IsStatus result.status }
     // Words that are no command, where the line that says so could be written.
-    ensures usage { result.status ≡ 2 → ¬ IsRun words.now }
-    ensures no_command { ¬ IsRun words.now → (result.status ≡ 2) ⊎ (result.status ≡ 4) }
+    ensures usage { result.status ≡ 2 → command_of words.now ≡ None }
+    ensures no_command { command_of words.now ≡ None → (result.status ≡ 2) ⊎ (result.status ≡ 4) }
     // Without a command nothing is read or run, and that line alone is written.
-    ensures nothing_run { ¬ IsRun words.now → result.journal ≡ [] }
-    ensures nothing_read { ¬ IsRun words.now → source.new ≡ source.old }
+    ensures nothing_run { command_of words.now ≡ None → result.journal ≡ [] }
+    ensures nothing_read { command_of words.now ≡ None → source.new ≡ source.old }
     ensures usage_written { result.status ≡ 2 → Wrote (K.written sink.old) (K.written sink.new) usage_line }
-    ensures usage_unwritten { ¬ IsRun words.now → result.status ≡ 4 → (count : ℕ) × Wrote (K.written sink.old) (K.written sink.new) (take count usage_line) }
+    ensures usage_unwritten { command_of words.now ≡ None → result.status ≡ 4 → (count : ℕ) × Wrote (K.written sink.old) (K.written sink.new) (take count usage_line) }
     // The source was read to its end, every line was run, and the journal's text was written.
-    ensures whole { result.status ≡ 0 → AfterTaking (S.left source.old) (S.left source.new) (λ taken. EndsWith End.Whole taken (S.left source.new) (K.written sink.old) result.journal (K.written sink.new)) }
+    ensures whole { (mode : AnyMode) → Ask words.now (Run mode) → result.status ≡ 0 → AfterTaking (S.left source.old) (S.left source.new) (λ taken. EndsWith End.Whole taken (S.left source.new) (report_to mode (K.written sink.old)) result.journal (K.written sink.new)) }
     // A line has a fault. The lines before it were run, and the journal's text was written and the line's number.
-    ensures faulty { result.status ≡ 1 → (number : ℕ) × AfterTaking (S.left source.old) (S.left source.new) (λ taken. EndsWith (End.Fault 1 number) taken (S.left source.new) (K.written sink.old) result.journal (K.written sink.new)) }
+    ensures faulty { (mode : AnyMode) → Ask words.now (Run mode) → result.status ≡ 1 → (number : ℕ) × AfterTaking (S.left source.old) (S.left source.new) (λ taken. EndsWith (End.Fault 1 number) taken (S.left source.new) (report_to mode (K.written sink.old)) result.journal (K.written sink.new)) }
     // A read failed. All whole lines that were taken were run, and the journal's text was written.
-    ensures unread { result.status ≡ 3 → AfterTaking (S.left source.old) (S.left source.new) (λ taken. EndsWith End.Read taken (S.left source.new) (K.written sink.old) result.journal (K.written sink.new)) }
+    ensures unread { (mode : AnyMode) → Ask words.now (Run mode) → result.status ≡ 3 → AfterTaking (S.left source.old) (S.left source.new) (λ taken. EndsWith End.Read taken (S.left source.new) (report_to mode (K.written sink.old)) result.journal (K.written sink.new)) }
     // A write failed. Only the last line that was run may be shown in part or not at all, and then no more was run.
-    ensures unwritten { IsRun words.now → result.status ≡ 4 → AfterTaking (S.left source.old) (S.left source.new) (λ taken. HasEnded End.Write taken (S.left source.new) (K.written sink.old) result.journal (K.written sink.new)) }
+    ensures unwritten { (mode : AnyMode) → Ask words.now (Run mode) → result.status ≡ 4 → AfterTaking (S.left source.old) (S.left source.new) (λ taken. HasEnded End.Write taken (S.left source.new) (report_to mode (K.written sink.old)) result.journal (K.written sink.new)) }
     // Memory ran out. The last line that was run may be shown by its first entries only.
-    ensures short { result.status ≡ 5 → AfterTaking (S.left source.old) (S.left source.new) (λ taken. EndsShort taken (S.left source.new) (K.written sink.old) result.journal (K.written sink.new)) }
+    ensures short { (mode : AnyMode) → Ask words.now (Run mode) → result.status ≡ 5 → AfterTaking (S.left source.old) (S.left source.new) (λ taken. EndsShort taken (S.left source.new) (report_to mode (K.written sink.old)) result.journal (K.written sink.new)) }
     // One byte more than the largest scenario was taken, and the lines before it were run.
-    ensures too_large { result.status ≡ 7 → AfterTaking (S.left source.old) (S.left source.new) (λ taken. EndsWith End.Size taken (S.left source.new) (K.written sink.old) result.journal (K.written sink.new)) }
+    ensures too_large { (mode : AnyMode) → Ask words.now (Run mode) → result.status ≡ 7 → AfterTaking (S.left source.old) (S.left source.new) (λ taken. EndsWith End.Size taken (S.left source.new) (report_to mode (K.written sink.old)) result.journal (K.written sink.new)) }
     // Where memory is found and no call fails, a scenario is run whole exactly where no line has a fault, ends with
     // a line's fault exactly where one has it, and is too large exactly where one byte more follows lines without.
-    ensures runs_whole { IsRun words.now → IsFaultless (S.left source.old) → ¬ CountsFault (S.faults source.old) (S.faults source.new) S.most_faults → ¬ CountsFault (K.faults sink.old) (K.faults sink.new) K.most_faults → (result.status ≡ 0) ⊎ (result.status ≡ 5) }
-    ensures finds_fault { IsRun words.now → IsFaulty (S.left source.old) → ¬ CountsFault (S.faults source.old) (S.faults source.new) S.most_faults → ¬ CountsFault (K.faults sink.old) (K.faults sink.new) K.most_faults → (result.status ≡ 1) ⊎ (result.status ≡ 5) }
-    ensures finds_size { IsRun words.now → IsTooLarge (S.left source.old) → ¬ CountsFault (S.faults source.old) (S.faults source.new) S.most_faults → ¬ CountsFault (K.faults sink.old) (K.faults sink.new) K.most_faults → (result.status ≡ 7) ⊎ (result.status ≡ 5) }
+    ensures runs_whole { (mode : AnyMode) → Ask words.now (Run mode) → IsFaultless (S.left source.old) → ¬ CountsFault (S.faults source.old) (S.faults source.new) S.most_faults → ¬ CountsFault (K.faults sink.old) (K.faults sink.new) K.most_faults → (result.status ≡ 0) ⊎ (result.status ≡ 5) }
+    ensures finds_fault { (mode : AnyMode) → Ask words.now (Run mode) → IsFaulty (S.left source.old) → ¬ CountsFault (S.faults source.old) (S.faults source.new) S.most_faults → ¬ CountsFault (K.faults sink.old) (K.faults sink.new) K.most_faults → (result.status ≡ 1) ⊎ (result.status ≡ 5) }
+    ensures finds_size { (mode : AnyMode) → Ask words.now (Run mode) → IsTooLarge (S.left source.old) → ¬ CountsFault (S.faults source.old) (S.faults source.new) S.most_faults → ¬ CountsFault (K.faults sink.old) (K.faults sink.new) K.most_faults → (result.status ≡ 7) ⊎ (result.status ≡ 5) }
     // Whatever lines the journal is a run of, for them it is serial; and it is visible.
     ensures serial { (lines : List (List ℕ)) (story : Story) → AreRun lines story result.journal → IsSerial story.run result.journal }
     ensures visible { (lines : List (List ℕ)) (story : Story) → AreRun lines story result.journal → IsVisible result.journal }
     // Where a lease lasts longer than the offset of clocks, each transaction has its rows or its serial fault.
     ensures answered { (lines : List (List ℕ)) (story : Story) → AreRun lines story result.journal → story.run.settings.max_offset < story.run.settings.lease → AreAnswered result.journal }
+    // The ranges of a scenario. No entry is made.
+    ensures zones_journal { (format : AnyFormat) → Ask words.now (ZonesIn format) → result.journal ≡ [] }
+    // Every line was run: the lines of refused statements were written in their order, and the report of all ranges.
+    ensures zones_whole { (format : AnyFormat) → Ask words.now (ZonesIn format) → result.status ≡ 0 → AfterTaking (S.left source.old) (S.left source.new) (λ taken. ZonesEnd format End.Whole taken (S.left source.new) (K.written sink.old) (K.written sink.new)) }
+    // A line has a fault, a read failed, or the scenario is too large: the lines of the statements refused before
+    // were written, and the line that says so, if there is one.
+    ensures zones_faulty { (format : AnyFormat) → Ask words.now (ZonesIn format) → result.status ≡ 1 → (fault number : ℕ) × AfterTaking (S.left source.old) (S.left source.new) (λ taken. ZonesEnd format (End.Fault fault number) taken (S.left source.new) (K.written sink.old) (K.written sink.new)) }
+    ensures zones_unread { (format : AnyFormat) → Ask words.now (ZonesIn format) → result.status ≡ 3 → AfterTaking (S.left source.old) (S.left source.new) (λ taken. ZonesEnd format End.Read taken (S.left source.new) (K.written sink.old) (K.written sink.new)) }
+    ensures zones_too_large { (format : AnyFormat) → Ask words.now (ZonesIn format) → result.status ≡ 7 → AfterTaking (S.left source.old) (S.left source.new) (λ taken. ZonesEnd format End.Size taken (S.left source.new) (K.written sink.old) (K.written sink.new)) }
+    // A write failed: only the last of the lines, or the report, may stand there in part.
+    ensures zones_unwritten { (format : AnyFormat) → Ask words.now (ZonesIn format) → result.status ≡ 4 → AfterTaking (S.left source.old) (S.left source.new) (λ taken. ZonesHaveEnded format End.Write taken (S.left source.new) (K.written sink.old) (K.written sink.new)) }
+    // Memory ran out: the lines of the statements refused before were written.
+    ensures zones_short { (format : AnyFormat) → Ask words.now (ZonesIn format) → result.status ≡ 5 → AfterTaking (S.left source.old) (S.left source.new) (λ taken. ZonesEndShort taken (S.left source.new) (K.written sink.old) (K.written sink.new)) }
     // A read that failed was counted, and so was a write.
     ensures read_failed { result.status ≡ 3 → CountsFault (S.faults source.old) (S.faults source.new) S.most_faults }
     ensures write_failed { result.status ≡ 4 → CountsFault (K.faults sink.old) (K.faults sink.new) K.most_faults }
@@ -73,7 +92,7 @@ pub fn top<S: Source, K: Sink>(
     lawful_is_visible();
     match command_of(words) {
         None => usage(alloc, sink),
-        Some(Command::Run) => run(alloc, source, sink),
+        Some(command) => carry_out(alloc, command, source, sink),
     }
 }
 
@@ -95,13 +114,35 @@ fn usage<K: Sink>(alloc: Global, sink: &mut K) -> Outcome
     }
 }
 
-/// Runs the scenario that the source gives.
-fn run<S: Source, K: Sink>(alloc: Global, source: &mut S, sink: &mut K) -> Outcome
-    ensures ended { (end : End) × (result.status ≡ status_of end) × AfterTaking (S.left source.old) (S.left source.new) (λ taken. HasEnded end taken (S.left source.new) (K.written sink.old) result.journal (K.written sink.new)) }
+/// Carries out a command.
+fn carry_out<S: Source, K: Sink>(
+    alloc: Global,
+    command: Command,
+    source: &mut S,
+    sink: &mut K,
+) -> Outcome
+    ensures statuses { IsStatus result.status }
+    ensures no_usage { result.status ≢ 2 }
+    ensures zoned { (format : AnyFormat) → command ≡ ZonesIn format → (result.journal ≡ []) × (end : End) × (result.status ≡ status_of end) × AfterTaking (S.left source.old) (S.left source.new) (λ taken. ZonesHaveEnded format end taken (S.left source.new) (K.written sink.old) (K.written sink.new)) }
+    ensures ran { (mode : AnyMode) → command ≡ Run mode → (end : End) × (result.status ≡ status_of end) × AfterTaking (S.left source.old) (S.left source.new) (λ taken. HasEnded end taken (S.left source.new) (report_to mode (K.written sink.old)) result.journal (K.written sink.new)) }
     ensures read_failed { result.status ≡ 3 → CountsFault (S.faults source.old) (S.faults source.new) S.most_faults }
     ensures write_failed { result.status ≡ 4 → CountsFault (K.faults sink.old) (K.faults sink.new) K.most_faults }
 {
-    let mut session = Session::new(alloc);
+    match command {
+        Command::Run(mode) => run(alloc, mode, source, sink),
+        Command::Zones(format) => zones(alloc, format, source, sink),
+    }
+}
+
+/// Runs the scenario that the source gives.
+fn run<S: Source, K: Sink>(alloc: Global, mode: Mode, source: &mut S, sink: &mut K) -> Outcome
+    ensures statuses { IsStatus result.status }
+    ensures no_usage { result.status ≢ 2 }
+    ensures ended { (end : End) × (result.status ≡ status_of end) × AfterTaking (S.left source.old) (S.left source.new) (λ taken. HasEnded end taken (S.left source.new) (report_to mode (K.written sink.old)) result.journal (K.written sink.new)) }
+    ensures read_failed { result.status ≡ 3 → CountsFault (S.faults source.old) (S.faults source.new) S.most_faults }
+    ensures write_failed { result.status ≡ 4 → CountsFault (K.faults sink.old) (K.faults sink.new) K.most_faults }
+{
+    let mut session = Session::new(alloc, mode);
     let end = match run_source(alloc, &mut session, source, sink) {
         Ok(()) => End::Whole,
         Err(end) => say(alloc, end, sink),
@@ -109,6 +150,26 @@ fn run<S: Source, K: Sink>(alloc: Global, source: &mut S, sink: &mut K) -> Outco
     Outcome {
         status: end.status(),
         journal: session.into_journal(),
+    }
+}
+
+/// Writes the ranges of the scenario that the source gives.
+fn zones<S: Source, K: Sink>(alloc: Global, format: Format, source: &mut S, sink: &mut K) -> Outcome
+    ensures statuses { IsStatus result.status }
+    ensures no_usage { result.status ≢ 2 }
+    ensures journal { result.journal ≡ [] }
+    ensures ended { (end : End) × (result.status ≡ status_of end) × AfterTaking (S.left source.old) (S.left source.new) (λ taken. ZonesHaveEnded format end taken (S.left source.new) (K.written sink.old) (K.written sink.new)) }
+    ensures read_failed { result.status ≡ 3 → CountsFault (S.faults source.old) (S.faults source.new) S.most_faults }
+    ensures write_failed { result.status ≡ 4 → CountsFault (K.faults sink.old) (K.faults sink.new) K.most_faults }
+{
+    let mut session = ZonesSession::new(alloc);
+    let end = match run_source(alloc, &mut session, source, sink) {
+        Ok(()) => session.write_report(format, sink),
+        Err(end) => say(alloc, end, sink),
+    };
+    Outcome {
+        status: end.status(),
+        journal: Journal::new(alloc),
     }
 }
 

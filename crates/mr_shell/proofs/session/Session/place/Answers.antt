@@ -9,5 +9,5 @@ use Rattle.mr_shell.proofs.session.Session.place.Goals as goal
 
 pub returns-clause-runs : goal.returns-clause-runs
 returns-clause-runs c =
-    λ info text before start written h.
-    has_run_anew (lines.Node info c.args.clock) text before start written c.args.self.now c.args.self.now.settings c.new.result (no_lines h.story.run.settings c.args.clock) h refl h.follows.made (subst (λ (s : Settings). IsRunOf (no_lines s c.args.clock) c.new.result) h.follows.made c.new.ensures.run) c.requires.empty (ap (λ (v : View). v.journal) c.new.ensures.made)
+    λ info report text before written h.
+    has_run_anew (lines.Node info c.args.clock) text before report written c.args.self.now c.args.self.now.settings c.new.result (no_lines h.story.run.settings c.args.clock) h refl h.follows.made (subst (λ (s : Settings). IsRunOf (no_lines s c.args.clock) c.new.result) h.follows.made c.new.ensures.run) c.requires.empty (ap (λ (v : View). v.journal) c.new.ensures.made)

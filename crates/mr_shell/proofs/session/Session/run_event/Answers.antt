@@ -9,13 +9,13 @@ entries_after-fresh-requires g c = fewer_entries c.journal-made.result.now c.jou
 pub returns-clause-runs : goal.returns-clause-runs
 returns-clause-runs g c =
     on_ok_weaker c.write_entries.result
-    (λ w text before start h.
-    has_run_event text before start (g.K.Sink.written c.args.sink.now) (g.K.Sink.written c.write_entries.new.sink) c.args.self.now c.step.new.self c.args.event.now c.journal-made.result.now c.journal.result.now c.names.result.now c.entries_after-fresh.result.now c.in_ok-step.ensures.run c.journal-made.ensures c.journal.ensures c.names.ensures c.entries_after-fresh.ensures c.in_ok-step.ensures.ok w h)
+    (λ w report text before h.
+    has_run_event text before report (g.K.Sink.written c.args.sink.now) (g.K.Sink.written c.write_entries.new.sink) c.args.self.now c.step.new.self c.args.event.now c.journal-made.result.now c.journal.result.now c.names.result.now c.entries_after-fresh.result.now c.in_ok-step.ensures.run c.journal-made.ensures c.journal.ensures c.names.ensures c.entries_after-fresh.ensures c.in_ok-step.ensures.ok w h)
     c.write_entries.ensures.written
 
 pub returns-clause-stops : goal.returns-clause-stops
 returns-clause-stops g c =
     IfErr-weaker c.write_entries.result _ _
-    (λ end w text before start h.
-    stops_at_event end text before start (g.K.Sink.written c.args.sink.now) (g.K.Sink.written c.write_entries.new.sink) c.args.self.now c.step.new.self c.args.event.now c.journal-made.result.now c.journal.result.now c.names.result.now c.entries_after-fresh.result.now c.in_ok-step.ensures.run c.journal-made.ensures c.journal.ensures c.names.ensures c.entries_after-fresh.ensures c.in_ok-step.ensures.ok w h)
+    (λ end w report text before h.
+    stops_at_event end text before report (g.K.Sink.written c.args.sink.now) (g.K.Sink.written c.write_entries.new.sink) c.args.self.now c.step.new.self c.args.event.now c.journal-made.result.now c.journal.result.now c.names.result.now c.entries_after-fresh.result.now c.in_ok-step.ensures.run c.journal-made.ensures c.journal.ensures c.names.ensures c.entries_after-fresh.ensures c.in_ok-step.ensures.ok w h)
     c.write_entries.ensures.stops

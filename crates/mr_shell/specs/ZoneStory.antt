@@ -1,0 +1,54 @@
+use Rattle.std.specs.Prelude.{◌≡◌, ℕ, ◌+◌, List, [], ◌∷◌, ◌++◌, Option, Some, None, Ok, Err, true}
+use Rattle.mr_base.specs.declared.nodes.NodeInfo.{NodeInfo}
+use Rattle.scenario.specs.Lines.{Told, nothing_seen, reads, told_by}
+use Rattle.scenario.specs.declared.lines.Line.{Line}
+use Rattle.scenario.specs.declared.lines.Line.TheVariants as lines
+use Rattle.scenario.specs.declared.seen.Seen.{Seen}
+use Rattle.zone_report.specs.Nodes.{regions_of}
+use Rattle.zone_report.specs.Refusals.{refused_line}
+use Rattle.zone_report.specs.Statements.{CarriesOut, Zoned}
+use Rattle.zone_report.specs.declared.refused.SqlRefusal.{SqlRefusal}
+
+-- What the lines of a scenario tell that is read for its ranges alone: what is kept of them to read the next
+-- one, the nodes with the catalog over them, and the lines of the statements that were refused.
+pub record ZoneStory : Type 0 where
+  pub seen : Seen
+  pub zoned : Zoned
+  pub refused : List ℕ
+
+-- Nodes without databases.
+abbrev pub over : List NodeInfo → Zoned
+over nodes = record { nodes = nodes; contents = record { regions = regions_of nodes; databases = []; tables = []; current = None } }
+
+-- Nothing was read yet.
+abbrev pub no_zone_story : ZoneStory
+no_zone_story = record { seen = nothing_seen true; zoned = over []; refused = [] }
+
+-- No message is in flight, and there is no range yet.
+abbrev pub nothing_told : Told
+nothing_told = told_by [] [] [] []
+
+-- The line that a statement writes: none where it is accepted.
+abbrev pub answer_text : Option SqlRefusal → List ℕ
+answer_text None = []
+answer_text (Some refusal) = refused_line refusal
+
+-- What a line does. A node joins the others; a statement is carried out on what is there, or refused with a
+-- line that says so; any other line leaves all as it was.
+abbrev pub Does : (old new : ZoneStory) → Line → Type 0
+Does old new (lines.Node info clock) = (new.zoned ≡ over (old.zoned.nodes ++ info ∷ [])) × (new.refused ≡ old.refused)
+Does old new (lines.Sql text) =
+    (answer : Option SqlRefusal) × CarriesOut text old.zoned answer new.zoned × (new.refused ≡ old.refused ++ answer_text answer)
+Does old new _ = (new.zoned ≡ old.zoned) × (new.refused ≡ old.refused)
+
+-- These lines, the newest first, are read one after the other from the start, none of them with a fault,
+-- and this is what they tell.
+abbrev pub TellsZones : List (List ℕ) → ZoneStory → Type 0
+TellsZones [] story = story ≡ no_zone_story
+TellsZones (text ∷ before) story =
+    (earlier : ZoneStory) × TellsZones before earlier × (line : Line) × (reads earlier.seen nothing_told text ≡ Ok (line, story.seen))
+    × Does earlier story line
+
+-- The next line has this fault.
+abbrev pub HasZoneFault : ZoneStory → List ℕ → ℕ → Type 0
+HasZoneFault story text fault = reads story.seen nothing_told text ≡ Err fault
