@@ -21,12 +21,12 @@ all_without taken left lines line all rest known whole story fault is cut tells 
     no_fault known p.0 lines line whole story fault (is ∙ p.1) tells before has
 
 -- a run that goes beyond the limit takes more bytes than there are
-too_few : (bytes taken left first : List ℕ) (beyond : ℕ) → bytes ≡ taken ++ left → IsWithinLimit bytes → taken ≡ first ++ beyond ∷ [] → length first ≡ 16777216 → ⊥
+pub too_few : (bytes taken left first : List ℕ) (beyond : ℕ) → bytes ≡ taken ++ left → IsWithinLimit bytes → taken ≡ first ++ beyond ∷ [] → length first ≡ 16777216 → ⊥
 too_few bytes taken left first beyond e within is long =
     omega (arith, within, ap (λ (l : List ℕ). length l) e, length-append taken left, ap (λ (l : List ℕ). length l) is, length-append first (beyond ∷ []), long)
 
 -- a run within the limit doesn't come to the end of more bytes
-too_many : (bytes taken left first beyond : List ℕ) → bytes ≡ taken ++ left → bytes ≡ first ++ beyond → IsWithinLimit taken → left ≡ [] → length first ≡ 16777216 → beyond ≢ [] → ⊥
+pub too_many : (bytes taken left first beyond : List ℕ) → bytes ≡ taken ++ left → bytes ≡ first ++ beyond → IsWithinLimit taken → left ≡ [] → length first ≡ 16777216 → beyond ≢ [] → ⊥
 too_many bytes taken left first [] e is within ended long some = some refl
 too_many bytes taken left first (b ∷ beyond) e is within ended long some =
     omega (arith, within, ap (λ (l : List ℕ). length l) (sym e ∙ is), length-append taken left, ap (λ (l : List ℕ). length l) ended, length-append first (b ∷ beyond), long)
@@ -68,7 +68,7 @@ finds_fault ends.Size (Some bytes) (Some left) report taken journal written told
     absurd (too_few bytes taken left f.0 f.2 e faulty.0 f.3 f.4)
 
 -- lines that a run within the limit took end within the limit
-first_begins : (bytes taken left first beyond : List ℕ) (lines : List (List ℕ)) → bytes ≡ taken ++ left → bytes ≡ first ++ beyond → IsWithinLimit taken → length first ≡ 16777216 → beyond ≢ [] → AreFirstLines taken (Some left) lines → BeginsWith first lines
+pub first_begins : (bytes taken left first beyond : List ℕ) (lines : List (List ℕ)) → bytes ≡ taken ++ left → bytes ≡ first ++ beyond → IsWithinLimit taken → length first ≡ 16777216 → beyond ≢ [] → AreFirstLines taken (Some left) lines → BeginsWith first lines
 first_begins bytes taken left first beyond lines e is within long some (inl h) =
     let p = within_first taken left first beyond (sym e ∙ is) (omega (arith, within, long)) in
     subst (λ (l : List ℕ). BeginsWith l lines) (sym p.1) (begins_more taken p.0 lines h)

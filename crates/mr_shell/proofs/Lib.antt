@@ -11,5 +11,6 @@ pub mod RunLines
 pub mod SessionStops
 pub mod StopLemmas
 pub mod TextLemmas
+pub mod ZoneExact
 pub mod ZoneLines
 pub mod ZoneStops

@@ -8,7 +8,7 @@ ghost use Rattle.mr_shell.specs.Story.{Story};
 ghost use Rattle.mr_shell.specs.Texts.{IsTold, Says, Wrote, last_line, report_to, usage_line};
 ghost use Rattle.mr_shell.specs.Words.{Ask, command_of};
 ghost use Rattle.mr_shell.specs.declared.commands.Command.TheVariants.{Run, Zones as ZonesIn};
-ghost use Rattle.mr_shell.specs.ZoneRun.{ZonesEnd, ZonesEndShort, ZonesHaveEnded};
+ghost use Rattle.mr_shell.specs.ZoneRun.{AreFaultlessZones, AreFaultyZones, AreTooLargeZones, ZonesEnd, ZonesEndShort, ZonesHaveEnded};
 ghost use Rattle.zone_report.specs.declared.report.Format.{Format as AnyFormat};
 ghost use Rattle.scenario.specs.declared.lines.Mode.{Mode as AnyMode};
 ghost use Rattle.mr_shell.specs.declared.outcome.End.{End};
@@ -84,6 +84,11 @@ pub fn top<S: Source, K: Sink>(
     ensures zones_unwritten { (format : AnyFormat) → Ask words.now (ZonesIn format) → result.status ≡ 4 → AfterTaking (S.left source.old) (S.left source.new) (λ taken. ZonesHaveEnded format End.Write taken (S.left source.new) (K.written sink.old) (K.written sink.new)) }
     // Memory ran out: the lines of the statements refused before were written.
     ensures zones_short { (format : AnyFormat) → Ask words.now (ZonesIn format) → result.status ≡ 5 → AfterTaking (S.left source.old) (S.left source.new) (λ taken. ZonesEndShort taken (S.left source.new) (K.written sink.old) (K.written sink.new)) }
+    // Where memory is found and no call fails, the command ends so exactly for scenarios without a fault, with one, and
+    // beyond the limit.
+    ensures zones_runs_whole { (format : AnyFormat) → Ask words.now (ZonesIn format) → AreFaultlessZones (S.left source.old) → ¬ CountsFault (S.faults source.old) (S.faults source.new) S.most_faults → ¬ CountsFault (K.faults sink.old) (K.faults sink.new) K.most_faults → (result.status ≡ 0) ⊎ (result.status ≡ 5) }
+    ensures zones_finds_fault { (format : AnyFormat) → Ask words.now (ZonesIn format) → AreFaultyZones (S.left source.old) → ¬ CountsFault (S.faults source.old) (S.faults source.new) S.most_faults → ¬ CountsFault (K.faults sink.old) (K.faults sink.new) K.most_faults → (result.status ≡ 1) ⊎ (result.status ≡ 5) }
+    ensures zones_finds_size { (format : AnyFormat) → Ask words.now (ZonesIn format) → AreTooLargeZones (S.left source.old) → ¬ CountsFault (S.faults source.old) (S.faults source.new) S.most_faults → ¬ CountsFault (K.faults sink.old) (K.faults sink.new) K.most_faults → (result.status ≡ 7) ⊎ (result.status ≡ 5) }
     // A read that failed was counted, and so was a write.
     ensures read_failed { result.status ≡ 3 → CountsFault (S.faults source.old) (S.faults source.new) S.most_faults }
     ensures write_failed { result.status ≡ 4 → CountsFault (K.faults sink.old) (K.faults sink.new) K.most_faults }
@@ -167,8 +172,9 @@ fn zones<S: Source, K: Sink>(alloc: Global, format: Format, source: &mut S, sink
         Ok(()) => session.write_report(format, sink),
         Err(end) => say(alloc, end, sink),
     };
+    let status = end.status();
     Outcome {
-        status: end.status(),
+        status,
         journal: Journal::new(alloc),
     }
 }

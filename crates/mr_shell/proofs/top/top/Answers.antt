@@ -4,6 +4,7 @@ use Rattle.mr_shell.proofs.Headline.{answered_run, serial_run, visible_run}
 use Rattle.mr_shell.specs.Texts.{report_to}
 use Rattle.mr_shell.specs.declared.commands.Command.TheVariants as commands
 use Rattle.mr_shell.proofs.EndLemmas.{at_fault, at_memory, at_read, at_size, at_whole, at_write}
+use Rattle.mr_shell.proofs.ZoneExact.{zones_finds_fault, zones_finds_size, zones_runs_whole}
 use Rattle.mr_shell.proofs.ZoneStops.{zones_fault, zones_memory, zones_read, zones_size, zones_whole, zones_write}
 use Rattle.mr_shell.proofs.Exact.{finds_fault, finds_size, runs_whole}
 use Rattle.mr_shell.proofs.top.top.Goals as goal
@@ -175,3 +176,42 @@ returns-in-Some-clause-visible g c lines story r = visible_run c.lawful_is_visib
 
 pub returns-in-Some-clause-answered : goal.returns-in-Some-clause-answered
 returns-in-Some-clause-answered g c lines story r short = answered_run c.carry_out.result.journal lines story r short
+
+pub returns-in-Some-clause-zones_runs_whole : goal.returns-in-Some-clause-zones_runs_whole
+returns-in-Some-clause-zones_runs_whole g c =
+    λ format asks known reads writes.
+    let k = sym c.in-Some.is ∙ (c.command_of.ensures ∙ asks) in
+    let same : c.in-Some.command ≡ commands.Zones format = cc in
+    let z = c.carry_out.ensures.zoned format same in
+    let e = z.2 in
+    let t = z.3 in
+    rw e
+    (zones_runs_whole format z.1 (g.S.Source.left c.args.source.now) (g.S.Source.left c.carry_out.new.source) (g.K.Sink.written c.args.sink.now) t.0 (g.K.Sink.written c.carry_out.new.sink) t.1 known t.2
+    (λ read. reads (c.carry_out.ensures.read_failed (e ∙ ap status_of read)))
+    (λ write. writes (c.carry_out.ensures.write_failed (e ∙ ap status_of write))))
+
+pub returns-in-Some-clause-zones_finds_fault : goal.returns-in-Some-clause-zones_finds_fault
+returns-in-Some-clause-zones_finds_fault g c =
+    λ format asks known reads writes.
+    let k = sym c.in-Some.is ∙ (c.command_of.ensures ∙ asks) in
+    let same : c.in-Some.command ≡ commands.Zones format = cc in
+    let z = c.carry_out.ensures.zoned format same in
+    let e = z.2 in
+    let t = z.3 in
+    rw e
+    (zones_finds_fault format z.1 (g.S.Source.left c.args.source.now) (g.S.Source.left c.carry_out.new.source) (g.K.Sink.written c.args.sink.now) t.0 (g.K.Sink.written c.carry_out.new.sink) t.1 known t.2
+    (λ read. reads (c.carry_out.ensures.read_failed (e ∙ ap status_of read)))
+    (λ write. writes (c.carry_out.ensures.write_failed (e ∙ ap status_of write))))
+
+pub returns-in-Some-clause-zones_finds_size : goal.returns-in-Some-clause-zones_finds_size
+returns-in-Some-clause-zones_finds_size g c =
+    λ format asks known reads writes.
+    let k = sym c.in-Some.is ∙ (c.command_of.ensures ∙ asks) in
+    let same : c.in-Some.command ≡ commands.Zones format = cc in
+    let z = c.carry_out.ensures.zoned format same in
+    let e = z.2 in
+    let t = z.3 in
+    rw e
+    (zones_finds_size format z.1 (g.S.Source.left c.args.source.now) (g.S.Source.left c.carry_out.new.source) (g.K.Sink.written c.args.sink.now) t.0 (g.K.Sink.written c.carry_out.new.sink) t.1 known t.2
+    (λ read. reads (c.carry_out.ensures.read_failed (e ∙ ap status_of read)))
+    (λ write. writes (c.carry_out.ensures.write_failed (e ∙ ap status_of write))))

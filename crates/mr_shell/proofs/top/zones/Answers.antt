@@ -15,8 +15,8 @@ returns-clause-ended g c =
     elim c.match-run_source.branch [
       | in-Ok w ↦
           let t = w.in-Ok.ensures.whole report unread in
-          rw (c.status.ensures, w.end-is, w.sink-is) (w.write_report-end.result, refl, (t.0, t.1, reported c.args.format w.write_report-end.result t.0 left start mid (g.K.Sink.written w.write_report-end.new.sink) c.run_source.new.runner t.2 w.write_report-end.ensures.writes))
+          rw (c.status-status.ensures, w.end-is, w.sink-is) (w.write_report-end.result, refl, (t.0, t.1, reported c.args.format w.write_report-end.result t.0 left start mid (g.K.Sink.written w.write_report-end.new.sink) c.run_source.new.runner t.2 w.write_report-end.ensures.writes))
       | in-Err w ↦
           let t = w.in-Err.ensures.stops report unread in
-          rw (c.status.ensures, w.end-is, w.sink-is) (w.say-end.result, refl, (t.0, t.1, ended c.args.format w.in-Err.end w.say-end.result t.0 left start mid (g.K.Sink.written w.say-end.new.sink) c.run_source.new.runner w.in-Err.ensures.ends t.2 w.say-end.ensures.says))
+          rw (c.status-status.ensures, w.end-is, w.sink-is) (w.say-end.result, refl, (t.0, t.1, ended c.args.format w.in-Err.end w.say-end.result t.0 left start mid (g.K.Sink.written w.say-end.new.sink) c.run_source.new.runner w.in-Err.ensures.ends t.2 w.say-end.ensures.says))
     ]
