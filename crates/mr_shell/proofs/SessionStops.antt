@@ -1,5 +1,5 @@
 -- Why a run ends, as its session tells it.
-use Rattle.std.proofs.Common.{◌≡◌, ℕ, List, [], ◌∷◌, ◌++◌, Option, ap, sym, ◌∙◌, append-nil, inl, inr}
+use Rattle.std.proofs.Common.{ℕ, List, [], ◌∷◌, ◌++◌, Option, ap, sym, ◌∙◌, append-nil, inl, inr}
 use Rattle.std.specs.Io.KnownBytes.{append_known}
 use Rattle.scenario.specs.declared.entries.JournalEntry.{JournalEntry}
 use Rattle.mr_shell.specs.Content.{AreFirstLines}

@@ -1,7 +1,5 @@
 -- A scenario that is read for its ranges, as its lines are read and run.
-use Rattle.std.proofs.Common.{◌≡◌, ℕ, ◌+◌, List, [], ◌∷◌, ◌++◌, Option, Some, None, refl, ap, sym, ◌∙◌, subst, inl, inr, length, take, add-one}
-use Rattle.std.specs.Prelude.{◌⊎◌, Ok}
-use Rattle.std.specs.Io.KnownBytes.{append_known}
+use Rattle.std.proofs.Common.{◌≡◌, ℕ, List, [], ◌∷◌, ◌++◌, Option, Some, None, refl, ap, sym, ◌∙◌, subst, length, take, add-one}
 use Rattle.mr_base.specs.declared.nodes.NodeInfo.{NodeInfo}
 use Rattle.region_sql.specs.declared.region_statements.RegionStatement.{RegionStatement}
 use Rattle.scenario.specs.declared.lines.Line.{Line}

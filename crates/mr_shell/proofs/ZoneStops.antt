@@ -1,6 +1,5 @@
 -- How the command has ended, once what was to be said of it was written.
-use Rattle.std.proofs.Common.{◌≡◌, ℕ, List, [], ◌∷◌, ◌++◌, Option, refl, ap, sym, ◌∙◌, subst, inl, inr, take}
-use Rattle.std.specs.Io.KnownBytes.{append_known}
+use Rattle.std.proofs.Common.{◌≡◌, ℕ, List, [], Option, sym, ◌∙◌, subst, inl, inr, take}
 use Rattle.zone_report.specs.Report.{report_text}
 use Rattle.zone_report.specs.Statements.{Zoned}
 use Rattle.zone_report.specs.declared.report.Format.{Format}

@@ -1,4 +1,4 @@
-use Rattle.std.specs.Prelude.{◌≡◌, ◌≢◌, ◌⊎◌, ℕ, ◌+◌, ◌<◌, ◌^◌, [], ◌∷◌, List, Option, length}
+use Rattle.std.specs.Prelude.{◌≡◌, ◌≢◌, ◌⊎◌, ℕ, ◌+◌, ◌<◌, ◌^◌, [], List, Option, length}
 use Rattle.mr_base.specs.declared.settings.Settings.{Settings}
 use Rattle.scenario.specs.FirstPath.{Reads}
 use Rattle.scenario.specs.Names.{NamesOnly}
@@ -10,7 +10,6 @@ use Rattle.scenario.specs.declared.first_path.Expected.TheVariants as expected
 use Rattle.sim_cluster.specs.Bounds.{AreSettings}
 use Rattle.sim_cluster.specs.Cluster.{IsRunOf, IsStep}
 use Rattle.sim_cluster.specs.View.{View}
-use Rattle.mr_shell.specs.Content.{BeginsWith, IsCut}
 use Rattle.mr_shell.specs.Run.{AreRun, report_of, ShowsAll, ShowsEntries, ShowsPart, EndsSaying, EndsShort, EndsUnwritten}
 use Rattle.mr_shell.specs.Story.{Story, Tells, HasFault}
 use Rattle.mr_shell.specs.Texts.{Report, Wrote}

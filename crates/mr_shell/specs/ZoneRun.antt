@@ -1,4 +1,4 @@
-use Rattle.std.specs.Prelude.{◌≡◌, ◌≢◌, ◌⊎◌, ℕ, ◌+◌, List, [], ◌∷◌, ◌++◌, Option, Some, None, length, take}
+use Rattle.std.specs.Prelude.{◌≡◌, ◌≢◌, ◌⊎◌, ℕ, List, [], ◌∷◌, ◌++◌, Option, Some, None, length, take}
 use Rattle.zone_report.specs.Report.{report_text}
 use Rattle.zone_report.specs.declared.report.Format.{Format}
 use Rattle.mr_shell.specs.Content.{AreAllLines, AreFirstLines, IsCut}

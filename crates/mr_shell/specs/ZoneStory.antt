@@ -1,4 +1,4 @@
-use Rattle.std.specs.Prelude.{◌≡◌, ℕ, ◌+◌, List, [], ◌∷◌, ◌++◌, Option, Some, None, Ok, Err, true}
+use Rattle.std.specs.Prelude.{◌≡◌, ℕ, List, [], ◌∷◌, ◌++◌, Option, Some, None, Ok, Err, true}
 use Rattle.mr_base.specs.declared.nodes.NodeInfo.{NodeInfo}
 use Rattle.scenario.specs.Lines.{Told, nothing_seen, reads, told_by}
 use Rattle.scenario.specs.declared.lines.Line.{Line}

@@ -1,4 +1,4 @@
-use Rattle.std.specs.Prelude.{◌≡◌, ℕ, ◌+◌, List, [], ◌∷◌, ◌++◌, Option, Some, None, Ok, length, take}
+use Rattle.std.specs.Prelude.{◌≡◌, ℕ, ◌+◌, List, Option, Some, None, Ok, length, take}
 use Rattle.mr_base.specs.declared.nodes.NodeInfo.{NodeInfo}
 use Rattle.scenario.specs.Lines.{reads}
 use Rattle.scenario.specs.declared.lines.Line.{Line}
