@@ -1,9 +1,11 @@
-//! The journal of the first path, as a trace shows it, beside its lines written out by hand.
+//! The journal of the first path beside its lines written out by hand, and answers beside those of the plain
+//! program.
 
 use super::*;
-use mr_base::{Bytes, Kind, NodeId, TxnId};
-use region_sql::first_statement;
-use scenario::{Event, Mode, standard_settings, text_of};
+use mr_base::{Bytes, Kind, ListOf, NodeId, SqlState, TxnId};
+use region_sql::{FirstStatement, first_statement};
+use scenario::{Event, JournalEntry, Mode, StatementResult, Verb, standard_settings, text_of};
+use sql_eval::{Execution, execute};
 use std::alloc::Global;
 use std::test::Fail;
 
@@ -73,5 +75,69 @@ fn the_first_journal_is_the_one_written_by_hand(rt: HostRuntime) -> Result<(), F
     }
     assert!(rt; trace.as_slice() == TRACE);
     assert!(rt; cluster.journal().len() == 17);
+    Ok(())
+}
+
+/// Every third statement is a SELECT. The ids come again, so that an INSERT may meet a row that is there.
+fn statement(k: u32) -> FirstStatement {
+    if k % 3 == 2 {
+        FirstStatement::SelectAll
+    } else {
+        FirstStatement::Insert(i64::from(k.wrapping_mul(k) % 89))
+    }
+}
+
+fn verb_of(statement: FirstStatement) -> Verb {
+    match statement {
+        FirstStatement::Insert(_) => Verb::Insert,
+        FirstStatement::SelectAll => Verb::Select,
+    }
+}
+
+/// Whether the one result of a transaction is what the plain program gives.
+fn is_result(results: &[StatementResult], verb: Verb, plain: &Execution) -> bool {
+    match results {
+        [one] => one.verb == verb && one.count == plain.count as u64 && one.rows == plain.rows,
+        _ => false,
+    }
+}
+
+/// Whether an entry gives the answer of the plain program.
+fn is_answer(entry: &JournalEntry, verb: Verb, plain: &Result<Execution, SqlState>) -> bool {
+    match plain {
+        Ok(plain) => match entry {
+            JournalEntry::Ack { results, .. } => is_result(results.as_slice(), verb, plain),
+            _ => false,
+        },
+        Err(fault) => match entry {
+            JournalEntry::Fault { state, .. } => state == fault,
+            _ => false,
+        },
+    }
+}
+
+#[test]
+fn answers_are_those_of_a_serial_run_on_one_site(rt: HostRuntime) -> Result<(), Fail> {
+    let alloc = rt.alloc();
+    let mut cluster = Cluster::new(alloc, standard_settings(), 1000);
+    cluster.step(5, &Event::Begin)?;
+    let mut table = ListOf::new(alloc);
+    let mut duplicates: u32 = 0;
+    for k in 0..200 {
+        let statement = statement(k);
+        let text = match statement {
+            FirstStatement::Insert(n) => format!(in alloc; "INSERT INTO t (id) VALUES ({n})")?,
+            FirstStatement::SelectAll => format!(in alloc; "SELECT * FROM t")?,
+        };
+        run(alloc, &mut cluster, k, text.as_bytes())?;
+        let plain = execute(alloc, statement, table.as_slice())?;
+        let last = cluster.journal().last().ok_or("no entry")?;
+        assert!(rt; is_answer(last, verb_of(statement), &plain));
+        match plain {
+            Ok(plain) => table = plain.after,
+            Err(_) => duplicates = duplicates.saturating_add(1),
+        }
+    }
+    assert!(rt; duplicates > 50 && table.as_slice().len() > 30);
     Ok(())
 }
