@@ -1,8 +1,8 @@
 -- What the tests of a placement tell.
-use Rattle.std.proofs.Common.{◌≡◌, ◌≢◌, ℕ, suc, take, get_or, ◌+◌, ◌*◌, ◌<◌, ◌≤◌, Bool, true, false, cond, not, ◌&&◌, ◌||◌, nat_le, nat_lt, List, [], ◌∷◌, ◌++◌, length, refl, ap, sym, ◌∙◌, subst, inl, inr, arith, true≢false}
-use Rattle.std.specs.Prelude.{◌⊎◌, ◌==◌, All, AllPairs, Contains, IfSome, IsSomeAnd, count_by, find, map, slice_get, is_none, Option, Some, None}
+use Rattle.std.proofs.Common.{◌≡◌, ◌≢◌, ℕ, take, get_or, ◌+◌, ◌<◌, ◌≤◌, Bool, true, false, cond, not, ◌&&◌, ◌||◌, nat_le, nat_lt, List, [], ◌∷◌, ◌++◌, length, refl, ap, sym, ◌∙◌, subst, inl, inr, arith, true≢false}
+use Rattle.std.specs.Prelude.{◌⊎◌, ◌==◌, All, Contains, IfSome, IsSomeAnd, find, map, slice_get, is_none, Option, Some, None}
 use Rattle.std.specs.List.{cons_option, filter_map, list_all, list_any}
-use Rattle.std.specs.Option.{option_map_or, option_to_list}
+use Rattle.std.specs.Option.{option_to_list}
 use Rattle.std.specs.Str.{bytes_eq}
 use Rattle.std.proofs.lemmas.Bool.{eqb-true, eq-eqb}
 use Rattle.std.proofs.lemmas.Bool.Decides.{nat_tests}
@@ -11,18 +11,17 @@ use Rattle.std.proofs.lemmas.List.Elements.{filter_map-append}
 use Rattle.std.proofs.lemmas.Option.{none-some, same_Some}
 use Rattle.mr_base.specs.declared.ids.NodeId.{NodeId}
 use Rattle.mr_base.specs.declared.nodes.NodeInfo.{NodeInfo}
-use Rattle.mr_base.specs.declared.nodes.NodeSet.{NodeSet}
 use Rattle.mr_base.specs.Nodes.{IsMember}
 use Rattle.region_sql.specs.declared.region_statements.Goal.{Goal}
 use Rattle.region_sql.specs.declared.region_statements.Goal.TheVariants.{Zone, Region}
 use Rattle.zone_compile.specs.declared.config.ZoneConfig.{ZoneConfig}
 use Rattle.zone_compile.specs.Configuration.{HasForm}
 use Rattle.placement.specs.declared.placement_types.Placement.{Placement}
-use Rattle.placement.specs.Majority.{IsLossOf, KeepsMajority, SurvivesLosses, remains}
+use Rattle.placement.specs.Majority.{SurvivesLosses, remains}
 use Rattle.placement.specs.Fitting.{Fits, Names, SameZone, ServeFor, count_in, ids_of}
 use Rattle.placement.specs.Tests.{first_is_at, fit, fits, found, has_home, has_region, has_two_at, ids_differ, is_at, is_named, rise, same_zone, serve, suits, zones_differ}
-use Rattle.placement.proofs.Lists.{Has, Pairs, all_from_has, all_pairs_from, contains_from_has, count_has, count_none, count_one, has_from_all, has_from_contains, has_left, has_map, has_option, has_right, map_has, pairs_from_all, pairs_map, pairs_unmap, pairs_weaker, has_either}
-use Rattle.placement.proofs.Regions.{Rising, bytes_differ, bytes_same, same_bytes, same_node}
+use Rattle.placement.proofs.Lists.{Has, Pairs, all_from_has, all_pairs_from, contains_from_has, count_none, count_one, has_from_all, has_from_contains, has_left, has_map, has_option, has_right, map_has, pairs_from_all, pairs_map, pairs_unmap, pairs_weaker, has_either}
+use Rattle.placement.proofs.Regions.{Rising, bytes_differ, bytes_same, same_bytes}
 use Rattle.placement.proofs.Fit.{lost_member, majority_of}
 use Rattle.placement.proofs.FitRegions.{count_fewer}
 

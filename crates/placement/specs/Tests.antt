@@ -1,4 +1,4 @@
-use Rattle.std.specs.Prelude.{ℕ, ◌==◌, Bool, true, false, not, ◌&&◌, ◌||◌, nat_le, nat_lt, List, [], ◌∷◌, ◌++◌, find, length, map, slice_get, Option, Some, None, is_none}
+use Rattle.std.specs.Prelude.{ℕ, ◌==◌, Bool, true, false, not, ◌&&◌, ◌||◌, nat_le, nat_lt, List, [], ◌∷◌, ◌++◌, find, length, slice_get, Option, Some, None, is_none}
 use Rattle.std.specs.List.{filter_map, list_all, list_any}
 use Rattle.std.specs.Option.{option_map_or}
 use Rattle.std.specs.Str.{bytes_eq}
@@ -8,7 +8,7 @@ use Rattle.region_sql.specs.declared.region_statements.Goal.{Goal}
 use Rattle.region_sql.specs.declared.region_statements.Goal.TheVariants.{Zone, Region}
 use Rattle.zone_compile.specs.declared.config.ZoneConfig.{ZoneConfig}
 use Rattle.placement.specs.declared.placement_types.Placement.{Placement}
-use Rattle.placement.specs.Fitting.{count_in, ids_of}
+use Rattle.placement.specs.Fitting.{count_in}
 
 -- The conditions of a placement as tests, which a slow program makes one after the other.
 

@@ -1,5 +1,4 @@
-use Rattle.std.proofs.Common.{◌≡◌, ℕ, List, arith}
-use Rattle.zone_compile.proofs.Formed.{onward}
+use Rattle.std.proofs.Common.{arith}
 use Rattle.zone_compile.proofs.forming.are_ones.Goals as goal
 
 pub returns : goal.returns

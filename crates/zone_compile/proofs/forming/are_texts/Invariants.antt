@@ -1,4 +1,4 @@
-use Rattle.std.proofs.Common.{◌≡◌, ℕ, ◌<◌, List, IsUtf8, get_or}
+use Rattle.std.proofs.Common.{ℕ, ◌<◌, List, IsUtf8, get_or}
 use Rattle.zone_compile.proofs.forming.are_texts.Given as goal
 
 abbrev pub invariant-loop-count : goal.invariant-loop-count
