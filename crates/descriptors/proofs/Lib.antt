@@ -5,7 +5,6 @@ pub mod Found
 mod Index
 mod Kept
 mod Limits
-mod Lookups
 mod Regions
 mod Samples
 mod SoundTables

@@ -11,10 +11,10 @@ ghost use Rattle.descriptors.specs.Changes.{after, with_table, with_locality, wi
 use crate::database::Database;
 use crate::lists::{place_of, without};
 use crate::made::{database_made, table_made};
-use crate::names::Names;
 use crate::store::{Entry, Store};
 use crate::table::Table;
 use mr_base::{Bytes, CloneIn, ListOf, Memory};
+use name_places::NamePlaces;
 use region_sql::{Goal, Item, Locality, RegionStatement};
 use std::alloc::Global;
 
@@ -108,7 +108,7 @@ impl Store {
         self.entries.reserve(1)?;
         self.places
             .insert(self.alloc, database.name.as_slice(), place)?;
-        let tables = Names::new(self.alloc);
+        let tables = NamePlaces::new(self.alloc);
         push_within(&mut self.entries, Entry { database, tables });
         self.current = Some(place);
         Ok(())

@@ -8,7 +8,6 @@ mod columns;
 mod database;
 mod lists;
 mod made;
-mod names;
 mod refusals;
 mod rules;
 mod store;

@@ -5,9 +5,9 @@ ghost use Rattle.std.specs.Option.{option_copied};
 ghost use Rattle.descriptors.specs.Contents.{is_database, is_table, database_named, current_database, current_table};
 
 use crate::database::Database;
-use crate::names::Names;
 use crate::table::Table;
 use mr_base::{Bytes, CloneIn, ListOf, Memory};
+use name_places::NamePlaces;
 use std::alloc::Global;
 use std::marker::Model;
 
@@ -15,7 +15,7 @@ use std::marker::Model;
 #[derive(Drop)]
 pub(crate) struct Entry {
     pub(crate) database: Database,
-    pub(crate) tables: Names,
+    pub(crate) tables: NamePlaces,
 }
 
 /// What a catalog holds.
@@ -26,7 +26,7 @@ pub(crate) struct Store {
     pub(crate) entries: Vec<Entry>,
     pub(crate) tables: Vec<Table>,
     pub(crate) current: Option<usize>,
-    pub(crate) places: Names,
+    pub(crate) places: NamePlaces,
 }
 
 impl Model for Store {
@@ -55,7 +55,7 @@ impl Store {
             entries: Vec::new(alloc),
             tables: Vec::new(alloc),
             current: None,
-            places: Names::new(alloc),
+            places: NamePlaces::new(alloc),
         }
     }
 

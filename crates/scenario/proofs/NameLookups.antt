@@ -1,23 +1,10 @@
 -- Looking names up by their places.
-use Rattle.std.proofs.Common.{◌≡◌, ℕ, suc, ◌+◌, Bool, cond, List, [], ◌∷◌, ◌++◌, None, Some, map, length, refl, ap, ◌∙◌, arith}
+use Rattle.std.proofs.Common.{◌≡◌, ℕ, suc, ◌+◌, ◌<◌, ◌≤◌, ◌^◌, Bool, cond, List, [], ◌∷◌, ◌++◌, Option, Some, length, length-append, refl, ap, ◌∙◌, arith}
 use Rattle.std.specs.List.{position_from}
 use Rattle.std.specs.Map.{lookup}
 use Rattle.std.specs.Str.{bytes_eq}
-use Rattle.std.proofs.lemmas.List.{map-append}
-use Rattle.scenario.specs.NamePlaces.{numbered}
-
--- a look-up among the keys as bytes is one among the keys
-pub lookup-map : {K V : Type 0} (key : K → List ℕ) (test : List ℕ → Bool) (es : List (K × V)) → lookup (λ k. test (key k)) es ≡ lookup test (map (λ e. (key e.0, e.1)) es)
-lookup-map key test [] = refl
-lookup-map key test (e ∷ es) = ap (λ r. cond (test (key e.0)) (Some e.1) r) (lookup-map key test es)
-
--- a name that isn't found as bytes isn't found by a key of these bytes
-pub absent_as_key : {K V : Type 0} (key : K → List ℕ) (k : K) (name : List ℕ) (es : List (K × V)) (seen : List (List ℕ × V)) → map (λ e. (key e.0, e.1)) es ≡ seen → key k ≡ name → lookup (bytes_eq name) seen ≡ None → lookup (λ x. bytes_eq (key k) (key x)) es ≡ None
-absent_as_key key k name es seen v n h = lookup-map key (bytes_eq (key k)) es ∙ ap (λ m. lookup (bytes_eq m) (map (λ e. (key e.0, e.1)) es)) n ∙ ap (lookup (bytes_eq name)) v ∙ h
-
--- an entry at the end is seen at the end
-pub pushed_as_seen : {K V : Type 0} (key : K → List ℕ) (k : K) (p : V) (name : List ℕ) (es new : List (K × V)) (seen : List (List ℕ × V)) → map (λ e. (key e.0, e.1)) es ≡ seen → key k ≡ name → new ≡ es ++ (k, p) ∷ [] → map (λ e. (key e.0, e.1)) new ≡ seen ++ (name, p) ∷ []
-pushed_as_seen key k p name es new seen v n h = ap (map (λ e. (key e.0, e.1))) h ∙ map-append (λ e. (key e.0, e.1)) es ((k, p) ∷ []) ∙ ap (λ s. s ++ (key k, p) ∷ []) v ∙ ap (λ m. seen ++ (m, p) ∷ []) n
+use Rattle.scenario.specs.NamePlaces.{numbered, place_of}
+use Rattle.scenario.proofs.PlaceLemmas.{found_place}
 
 -- one more name is one more pair
 pub numbered-push : (n : ℕ) (xs : List (List ℕ)) (x : List ℕ) → numbered n (xs ++ x ∷ []) ≡ numbered n xs ++ (x, n + length xs) ∷ []
@@ -38,3 +25,15 @@ pushed_with_place places new names items name key place p n k l i =
     let h : numbered 0 (names ++ name ∷ []) ≡ numbered 0 names ++ (name, 0 + length names) ∷ [] = numbered-push 0 names name in
     let z : 0 + length names ≡ length names = omega arith in
     cc
+
+-- the place that is found among the pairs is that among the names
+pub place_found : (result : Option ℕ) (places : List (List ℕ × ℕ)) (items names : List (List ℕ)) (name : List ℕ) → result ≡ lookup (bytes_eq name) places → places ≡ numbered 0 items → items ≡ names → result ≡ place_of names name
+place_found result places items names name r p i = r ∙ ap (lookup (bytes_eq name)) p ∙ lookup-numbered (bytes_eq name) 0 items ∙ ap (λ (ns : List (List ℕ)). place_of ns name) i
+
+-- a place that is found is small, as the names are few
+pub small_place : (items names : List (List ℕ)) (name : List ℕ) (place : ℕ) → items ≡ names → length items ≤ 2 ^ 32 → place_of names name ≡ Some place → place < 2 ^ 32
+small_place items names name place i few at = omega (arith, (found_place names name place at).0, few, ap length i)
+
+-- one name more, whose place is a number of 32 bits, leaves them few
+pub few_more : (items new names : List (List ℕ)) (name : List ℕ) (place : ℕ) → items ≡ names → place ≡ length names → place < 2 ^ 32 → new ≡ items ++ name ∷ [] → length new ≤ 2 ^ 32
+few_more items new names name place i p small n = omega (arith, p, small, ap length i, ap length n, length-append items (name ∷ []))

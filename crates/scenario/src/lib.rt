@@ -14,7 +14,6 @@ mod judgements;
 mod lines;
 mod logs;
 mod messages;
-mod name_places;
 mod parts;
 mod reader;
 mod seen;

@@ -3,8 +3,8 @@
 ghost use Rattle.std.specs.Prelude.{◌≡◌, [], ◌∷◌, ◌++◌, None, OnOk, OnErr, length};
 ghost use Rattle.scenario.specs.NamePlaces.{place_of};
 
-use crate::name_places::NamePlaces;
 use mr_base::{Bytes, Memory};
+use name_places::NamePlaces;
 use std::alloc::Global;
 use std::marker::Model;
 
@@ -17,14 +17,14 @@ pub(crate) struct TxnNames {
 }
 
 impl Model for TxnNames {
-    ghost use Rattle.std.specs.Prelude.{ℕ, List, ◌≡◌};
+    ghost use Rattle.std.specs.Prelude.{ℕ, List, ◌≡◌, ◌≤◌, ◌^◌, length};
     ghost use Rattle.scenario.specs.NamePlaces.{numbered};
 
     ghost Value = { List (List ℕ) };
 
     ghost view = { λ n. n.names.items };
 
-    ghost invariant = { λ n. n.places ≡ numbered 0 n.names.items };
+    ghost invariant = { λ n. (n.places ≡ numbered 0 n.names.items) × (length n.names.items ≤ 2 ^ 32) };
 }
 
 impl TxnNames {
@@ -57,7 +57,10 @@ impl TxnNames {
     pub(crate) fn place(&self, name: &[u8]) -> Option<u32>
         ensures { result ≡ place_of self.now name.now }
     {
-        self.places.place(name)
+        match self.places.place(name) {
+            None => None,
+            Some(place) => u32::try_from(place).ok(),
+        }
     }
 
     /// Adds a name that isn't there, with its place. The names are unchanged after want of memory.
@@ -68,7 +71,8 @@ impl TxnNames {
         ensures err { OnErr result (self.new ≡ self.old) }
     {
         self.names.reserve(1)?;
-        self.places.insert(self.alloc, name.as_slice(), place)?;
+        self.places
+            .insert(self.alloc, name.as_slice(), place as usize)?;
         match self.names.push(name) {
             Ok(()) => Ok(()),
             Err(_) => unreachable!(),

@@ -1,8 +1,8 @@
 use Rattle.std.proofs.Common.{◌∙◌}
 use Rattle.std.specs.Str.{bytes_eq}
 use Rattle.indexmap.proofs.CallerLemmas.{insert_entry-new}
-use Rattle.scenario.proofs.NameLookups.{absent_as_key, pushed_as_seen}
-use Rattle.scenario.proofs.name_places.NamePlaces.insert.Goals as goal
+use Rattle.name_places.proofs.Lookups.{absent_as_key, pushed_as_seen}
+use Rattle.name_places.proofs.places.NamePlaces.insert.Goals as goal
 
 pub returns-clause-ok : goal.returns-clause-ok
 returns-clause-ok c =

@@ -1,8 +1,8 @@
 use Rattle.std.proofs.Common.{◌≡◌, vec_len, ◌∙◌}
 use Rattle.std.specs.List.{AllZip}
 use Rattle.std.proofs.lemmas.List.Elements.{same_from_all_zip}
-use Rattle.descriptors.proofs.Lookups.{clones_as_seen}
-use Rattle.descriptors.proofs.names.NamesCloneIn.clone_in.Goals as goal
+use Rattle.name_places.proofs.Lookups.{clones_as_seen}
+use Rattle.name_places.proofs.places.NamePlacesCloneIn.clone_in.Goals as goal
 
 pub returns : goal.returns
 returns c = record {

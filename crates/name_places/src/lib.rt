@@ -1,0 +1,9 @@
+//! Names with their places.
+#![tactic(auto)]
+
+mod places;
+
+pub use places::NamePlaces;
+
+#[cfg(test)]
+mod tests;

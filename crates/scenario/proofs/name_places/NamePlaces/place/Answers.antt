@@ -1,8 +1,0 @@
-use Rattle.std.proofs.Common.{ap, ◌∙◌}
-use Rattle.std.specs.Map.{lookup}
-use Rattle.std.specs.Str.{bytes_eq}
-use Rattle.scenario.proofs.NameLookups.{lookup-map}
-use Rattle.scenario.proofs.name_places.NamePlaces.place.Goals as goal
-
-pub returns : goal.returns
-returns c = c.copied.ensures ∙ c.get.ensures.value ∙ lookup-map (λ k. k.items) (bytes_eq c.args.name.now) c.self.inside.places.entries ∙ ap (lookup (bytes_eq c.args.name.now)) c.self.view_is
