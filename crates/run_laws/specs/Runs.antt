@@ -30,6 +30,6 @@ pub record IsRun (s : LinesRun) (journal : List JournalEntry) : Type 0 where
   pub lawful : (later : List NumberedEvent) → IsLawful (going_on later s) journal
   pub caused : (later : List NumberedEvent) → IsCaused (going_on later s) journal
   pub whole : IsWhole s journal
-  pub settled : IsSettled journal
+  pub settled : IsSettled s journal
   pub answered : s.settings.max_offset < s.settings.lease → AreAnswered journal
   pub names : NamesOnly (HasLine s.events) journal

@@ -58,7 +58,11 @@ begin_run s line x run e =
       );
       caused = λ later. (tt, (tt, tt));
       whole = record { lines = ap (λ l. line ∷ l) run.whole.lines; made = ((λ q. cc), none_made (begin_journal line x) s.events run.whole.lines) };
-      settled = λ b h. absurd h;
+      settled = record {
+        answered = λ b h. absurd h;
+        resolved = λ a c committed key i h. absurd h;
+        within = (λ ts h. absurd h, (λ ts h. absurd h, tt));
+      };
       answered = λ w b h. absurd h;
       names = (λ t h. absurd h, (λ t h. absurd h, tt));
     }

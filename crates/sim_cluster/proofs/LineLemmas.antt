@@ -55,6 +55,7 @@ pub record TxnFacts (s : LinesRun) (k : Reading) (count line : ℕ) (b : Begun) 
   pub start : b.start ≡ of_reading (next_start s journal) b.attempt.0
   pub limit : b.limit ≡ b.start.wall + s.settings.max_offset
   pub ahead : IsAhead k b.start
+  pub wall : b.start.wall ≤ s.clock
   pub passed : b.start.wall ≤ (reading_at s (begin_step b ∷ journal)).wall
   pub within : AreWithin k count journal
   pub kept : IsKept k count range journal

@@ -1,11 +1,13 @@
 use Rattle.std.proofs.Common.{◌≡◌, ◌≢◌, ◌<◌, ℕ, Bool, true, false, cond, List, [], ◌∷◌, ◌++◌, ◌≤◌, ◌+◌, inl, inr, refl, sym, ap, ap₂, ◌∙◌, subst, arith, reverse, append_assoc}
-use Rattle.std.specs.Prelude.{nat_lt}
+use Rattle.std.specs.Prelude.{nat_lt, ◌⊎◌}
 use Rattle.std.proofs.lemmas.Bool.Decides.{nat_tests}
 use Rattle.mr_base.specs.Timestamps.{of_reading}
 use Rattle.mr_base.specs.declared.ids.TxnId.{TxnId}
 use Rattle.mr_base.specs.declared.settings.Kind.TheVariants as kinds
 use Rattle.mr_base.specs.declared.timestamps.Reading.{Reading}
 use Rattle.mr_base.specs.declared.timestamps.Ts.{Ts}
+use Rattle.range_log.specs.Facts.{Laid, HasIntent}
+use Rattle.range_log.specs.declared.entries.Entry.{Entry}
 use Rattle.region_sql.specs.FirstForms.{IsFirstText}
 use Rattle.region_sql.specs.declared.first_forms.FirstStatement.{FirstStatement}
 use Rattle.run_laws.specs.Answered.{HasAnswer}
@@ -14,6 +16,7 @@ use Rattle.run_laws.specs.Caused.{IsCaused}
 use Rattle.run_laws.specs.Lawful.{IsLawful}
 use Rattle.run_laws.specs.LinesRun.{LinesRun, NumberedEvent, IsNextLine, AreNotOf, IsNotOf, with_line}
 use Rattle.run_laws.specs.Runs.{IsRun, HasLine, IsLineOf}
+use Rattle.run_laws.specs.Settled.{AreWithin, furthest}
 use Rattle.run_laws.specs.Whole.{IsMade, AreMade}
 use Rattle.run_laws.specs.Words.{Beginning, Began, IsAnswered, greatest_start, later_reading, lines_of, log_of, the_node, the_range}
 use Rattle.scenario.specs.Names.{NamesOnly}
@@ -23,11 +26,12 @@ use Rattle.scenario.specs.declared.events.Event.{Event}
 use Rattle.scenario.specs.declared.events.Event.TheVariants as events
 use Rattle.sim_cluster.proofs.KnownLemmas.{IsNext, IsOfInts, later_next, line_journal, made_range}
 use Rattle.sim_cluster.proofs.LineLemmas.{TxnFacts, beginning_of}
+use Rattle.sim_cluster.proofs.LogLemmas.{no_intent}
 use Rattle.sim_cluster.proofs.TxnLemmas.{line_caused, line_lawful}
 use Rattle.sim_cluster.specs.Bounds.{IsAhead}
 use Rattle.sim_cluster.specs.Clock.{next_of, reading_of}
 use Rattle.sim_cluster.specs.Courses.{Goes}
-use Rattle.sim_cluster.specs.Kept.{IsKnown}
+use Rattle.sim_cluster.specs.Kept.{IsKept, IsKnown}
 use Rattle.sim_cluster.specs.Steps.{begin_step, line_steps}
 use Rattle.sim_cluster.specs.declared.courses.Course.{Course}
 use Rattle.sim_cluster.specs.declared.courses.Course.TheVariants as courses
@@ -91,6 +95,18 @@ made_more : (old new : List JournalEntry) → ((b : Beginning) → Began b old �
 made_more old new f g [] h = tt
 made_more old new f g (e ∷ es) h = (made_one old new f g e.event h.0, made_more old new f g es h.1)
 
+-- no intent stands in the log
+abbrev pub HasNoIntent : List JournalEntry → Type 0
+HasNoIntent journal = (key : List ℕ) (i : Laid) → ¬ HasIntent key i (log_of the_range journal)
+
+-- each timestamp of a transaction is its start
+at_start : (b : Begun) (most : ℕ) → b.start.wall ≤ most → (ts : Ts) → ts ≡ b.start → ts.wall ≤ most
+at_start b most h ts e = subst (λ (t : Ts). t.wall ≤ most) (sym e) h
+
+put_at_start : (b : Begun) (most : ℕ) → b.start.wall ≤ most → (ts : Ts) → (ts ≡ b.start) ⊎ (ts ≡ b.start) → ts.wall ≤ most
+put_at_start b most h ts (inl e) = at_start b most h ts e
+put_at_start b most h ts (inr e) = at_start b most h ts e
+
 module _ (line : ℕ) (b : Begun) (range : Range) (journal : List JournalEntry) where
   lines_line : (course : Course) → lines_of (line_journal line b course range journal) ≡ line ∷ lines_of journal
   lines_line courses.Unserved = refl
@@ -116,15 +132,31 @@ module _ (line : ℕ) (b : Begun) (range : Range) (journal : List JournalEntry) 
   log_more (courses.Inserts m) h e = cc
   log_more courses.Selects h e = h e
 
-  settled_line : (course : Course) → ((g : Beginning) → Began g journal → IsAnswered g.txn journal) → (g : Beginning) → Began g (line_journal line b course range journal) → IsAnswered g.txn (line_journal line b course range journal)
-  settled_line courses.Unserved f g (inl e) = inl (ap (λ (y : Beginning). y.txn) e)
-  settled_line courses.Unserved f g (inr h) = inr (f g h)
-  settled_line (courses.Duplicate m) f g (inl e) = inl (ap (λ (y : Beginning). y.txn) e)
-  settled_line (courses.Duplicate m) f g (inr h) = inr (f g h)
-  settled_line (courses.Inserts m) f g (inl e) = inl (ap (λ (y : Beginning). y.txn) e)
-  settled_line (courses.Inserts m) f g (inr h) = inr (f g h)
-  settled_line courses.Selects f g (inl e) = inl (ap (λ (y : Beginning). y.txn) e)
-  settled_line courses.Selects f g (inr h) = inr (f g h)
+  answers_line : (course : Course) → ((g : Beginning) → Began g journal → IsAnswered g.txn journal) → (g : Beginning) → Began g (line_journal line b course range journal) → IsAnswered g.txn (line_journal line b course range journal)
+  answers_line courses.Unserved f g (inl e) = inl (ap (λ (y : Beginning). y.txn) e)
+  answers_line courses.Unserved f g (inr h) = inr (f g h)
+  answers_line (courses.Duplicate m) f g (inl e) = inl (ap (λ (y : Beginning). y.txn) e)
+  answers_line (courses.Duplicate m) f g (inr h) = inr (f g h)
+  answers_line (courses.Inserts m) f g (inl e) = inl (ap (λ (y : Beginning). y.txn) e)
+  answers_line (courses.Inserts m) f g (inr h) = inr (f g h)
+  answers_line courses.Selects f g (inl e) = inl (ap (λ (y : Beginning). y.txn) e)
+  answers_line courses.Selects f g (inr h) = inr (f g h)
+
+  -- no intent is left
+  resolved_line : (course : Course) → HasNoIntent journal → HasNoIntent (line_journal line b course range journal)
+  resolved_line courses.Unserved f key i h = f key i h
+  resolved_line (courses.Duplicate m) f key i h = f key i h
+  resolved_line (courses.Inserts m) f key i (inl (p, q), n) = n p (sym (ap (λ l. l.attempt) q))
+  resolved_line (courses.Inserts m) f key i (inr (p, q), n) = f key i q
+  resolved_line courses.Selects f key i h = f key i h
+
+  -- no timestamp is ahead
+  within_line : (course : Course) (most : ℕ) → b.start.wall ≤ most → AreWithin most journal → AreWithin most (line_journal line b course range journal)
+  within_line courses.Unserved most h w = (λ t q. absurd q, (at_start b most h, (λ t q. absurd q, w)))
+  within_line (courses.Duplicate m) most h w = (at_start b most h, (at_start b most h, (at_start b most h, (λ t q. absurd q, w))))
+  within_line (courses.Inserts m) most h w =
+      (at_start b most h, (at_start b most h, (at_start b most h, (put_at_start b most h, (at_start b most h, (at_start b most h, (λ t q. absurd q, w)))))))
+  within_line courses.Selects most h w = (at_start b most h, (at_start b most h, (at_start b most h, (λ t q. absurd q, w))))
 
   answered_line : (course : Course) → course ≢ courses.Unserved → ((g : Beginning) → Began g journal → HasAnswer g.txn journal) → (g : Beginning) → Began g (line_journal line b course range journal) → HasAnswer g.txn (line_journal line b course range journal)
   answered_line courses.Unserved n f g h = absurd (n refl)
@@ -155,6 +187,10 @@ steps_some line b (courses.Duplicate m) range e = cc
 steps_some line b (courses.Inserts m) range e = cc
 steps_some line b courses.Selects range e = cc
 
+-- no intent stands in what is kept
+kept_free : (k : Reading) (count : ℕ) (range : Range) (journal : List JournalEntry) → IsKept k count range journal → HasNoIntent journal
+kept_free k count range journal kept key i h = no_intent kept.expiration kept.rows key i (subst (λ (entries : List Entry). HasIntent key i entries) kept.log_is h)
+
 -- what is known where a transaction begins
 pub txn_facts : (s : LinesRun) (k : Reading) (count line : ℕ) (b : Begun) (st : FirstStatement) (text : List ℕ) (range : Range) (journal : List JournalEntry)
     → IsRun s journal → IsNextLine s line (events.Txn b.txn the_node kinds.Now text) → IsFirstText text st → IsKnown k count range journal → journal ≢ []
@@ -175,6 +211,7 @@ txn_facts s k count line b st text range journal run next list known some wall s
       start = begins;
       limit = limit;
       ahead = subst (λ (ts : Ts). IsAhead k ts) (sym start) n.ahead;
+      wall = subst (λ (ts : Ts). ts.wall ≤ s.clock) (sym start) n.within;
       passed = subst (λ (y : Reading). b.start.wall ≤ (reading_of s.clock y).wall) (sym gave)
           (subst (λ (ts : Ts). ts.wall ≤ (reading_of s.clock (next_of s.clock k)).wall) (sym start) (shows s.clock (next_of s.clock k)));
       within = known.within;
@@ -200,7 +237,11 @@ run_next s k count line b st text course range journal run facts ints goes serve
           made_more journal (line_journal line b course range journal) (began_more line b range journal course) (log_more line b range journal course) s.events run.whole.made,
         );
       };
-      settled = settled_line line b range journal course run.settled;
+      settled = record {
+        answered = answers_line line b range journal course run.settled.answered;
+        resolved = λ a c committed key i h. absurd (resolved_line line b range journal course (kept_free k count range journal facts.kept) key i h);
+        within = within_line line b range journal course (furthest s) (omega (arith, facts.wall)) run.settled.within;
+      };
       answered = λ w. answered_line line b range journal course (served w) (run.answered w);
       names = names_line line b range journal course (HasLine (x ∷ s.events)) (λ t e. inl e) (names_more x s.events journal run.names);
     }
