@@ -3,6 +3,7 @@ pub mod EndLemmas
 pub mod Exact
 pub mod Headline
 pub mod NextLine
+pub mod NothingRead
 pub mod OneCut
 pub mod OneReading
 pub mod OneStory

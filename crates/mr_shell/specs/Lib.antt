@@ -4,8 +4,8 @@ pub mod Pieces
 pub mod Run
 pub mod Session
 pub mod Story
+pub mod Tasks
 pub mod Texts
-pub mod Words
 pub mod ZoneRun
 pub mod ZoneStory
 pub mod ZonesSession

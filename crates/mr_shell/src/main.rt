@@ -1,12 +1,12 @@
 //! Simulates a multi-region cluster from a scenario text and writes a report.
 #![tactic(auto)]
 
-mod commands;
 mod outcome;
 mod pieces;
 mod report;
 mod runner;
 mod session;
+mod tasks;
 mod top;
 mod zones_session;
 

@@ -6,8 +6,8 @@ ghost use Rattle.mr_shell.specs.Ends.{IsStatus, EndsPieces, status_of};
 ghost use Rattle.mr_shell.specs.Run.{AfterTaking, AreRun, EndsWith, EndsShort, HasEnded, IsFaultless, IsFaulty, IsTooLarge};
 ghost use Rattle.mr_shell.specs.Story.{Story};
 ghost use Rattle.mr_shell.specs.Texts.{IsTold, Says, Wrote, last_line, report_to, usage_line};
-ghost use Rattle.mr_shell.specs.Words.{Ask, command_of};
-ghost use Rattle.mr_shell.specs.declared.commands.Command.TheVariants.{Run, Zones as ZonesIn};
+ghost use Rattle.mr_shell.specs.Tasks.{Ask, task_of};
+ghost use Rattle.mr_shell.specs.declared.tasks.Task.TheVariants.{Run, Zones as ZonesIn};
 ghost use Rattle.mr_shell.specs.ZoneRun.{AreFaultlessZones, AreFaultyZones, AreTooLargeZones, ZonesEnd, ZonesEndShort, ZonesHaveEnded};
 ghost use Rattle.zone_report.specs.declared.report.Format.{Format as AnyFormat};
 ghost use Rattle.scenario.specs.declared.lines.Mode.{Mode as AnyMode};
@@ -16,10 +16,10 @@ ghost use Rattle.run_laws.specs.Answered.{AreAnswered};
 ghost use Rattle.run_laws.specs.Serial.{IsSerial};
 ghost use Rattle.run_laws.specs.Visible.{IsVisible};
 
-use crate::commands::{Command, command_of};
 use crate::outcome::{End, Outcome};
 use crate::pieces::run_source;
 use crate::session::Session;
+use crate::tasks::{Task, task_of};
 use crate::zones_session::ZonesSession;
 use mr_io::{Sink, Source, write_all};
 use run_laws::{lawful_is_serial, lawful_is_visible};
@@ -42,13 +42,14 @@ pub fn top<S: Source, K: Sink>(
     // Nothing else is answered.
     ensures statuses { IsStatus result.status }
     // Words that are no command, where the line that says so could be written.
-    ensures usage { result.status ≡ 2 → command_of words.now ≡ None }
-    ensures no_command { command_of words.now ≡ None → (result.status ≡ 2) ⊎ (result.status ≡ 4) }
+    ensures usage { result.status ≡ 2 → task_of words.now ≡ None }
+    ensures no_command { task_of words.now ≡ None → (result.status ≡ 2) ⊎ ((result.status ≡ 4) ⊎ (result.status ≡ 5)) }
     // Without a command nothing is read or run, and that line alone is written.
-    ensures nothing_run { command_of words.now ≡ None → result.journal ≡ [] }
-    ensures nothing_read { command_of words.now ≡ None → source.new ≡ source.old }
+    ensures nothing_run { task_of words.now ≡ None → result.journal ≡ [] }
+    ensures nothing_read { task_of words.now ≡ None → source.new ≡ source.old }
     ensures usage_written { result.status ≡ 2 → Wrote (K.written sink.old) (K.written sink.new) usage_line }
-    ensures usage_unwritten { command_of words.now ≡ None → result.status ≡ 4 → (count : ℕ) × Wrote (K.written sink.old) (K.written sink.new) (take count usage_line) }
+    ensures usage_unwritten { task_of words.now ≡ None → result.status ≡ 4 → (count : ℕ) × Wrote (K.written sink.old) (K.written sink.new) (take count usage_line) }
+    ensures usage_short { task_of words.now ≡ None → result.status ≡ 5 → K.written sink.new ≡ K.written sink.old }
     // The source was read to its end, every line was run, and the journal's text was written.
     ensures whole { (mode : AnyMode) → Ask words.now (Run mode) → result.status ≡ 0 → AfterTaking (S.left source.old) (S.left source.new) (λ taken. EndsWith End.Whole taken (S.left source.new) (report_to mode (K.written sink.old)) result.journal (K.written sink.new)) }
     // A line has a fault. The lines before it were run, and the journal's text was written and the line's number.
@@ -95,9 +96,23 @@ pub fn top<S: Source, K: Sink>(
 {
     lawful_is_serial();
     lawful_is_visible();
-    match command_of(words) {
+    let Ok(asked) = task_of(alloc, words) else {
+        return out_of_memory(alloc);
+    };
+    match asked {
         None => usage(alloc, sink),
-        Some(command) => carry_out(alloc, command, source, sink),
+        Some(task) => carry_out(alloc, task, source, sink),
+    }
+}
+
+/// Nothing was read, since the words couldn't be read for want of memory.
+fn out_of_memory(alloc: Global) -> Outcome
+    ensures status { result.status ≡ 5 }
+    ensures journal { result.journal ≡ [] }
+{
+    Outcome {
+        status: End::Memory.status(),
+        journal: Journal::new(alloc),
     }
 }
 
@@ -119,23 +134,18 @@ fn usage<K: Sink>(alloc: Global, sink: &mut K) -> Outcome
     }
 }
 
-/// Carries out a command.
-fn carry_out<S: Source, K: Sink>(
-    alloc: Global,
-    command: Command,
-    source: &mut S,
-    sink: &mut K,
-) -> Outcome
+/// Does what is asked.
+fn carry_out<S: Source, K: Sink>(alloc: Global, task: Task, source: &mut S, sink: &mut K) -> Outcome
     ensures statuses { IsStatus result.status }
     ensures no_usage { result.status ≢ 2 }
-    ensures zoned { (format : AnyFormat) → command ≡ ZonesIn format → (result.journal ≡ []) × (end : End) × (result.status ≡ status_of end) × AfterTaking (S.left source.old) (S.left source.new) (λ taken. ZonesHaveEnded format end taken (S.left source.new) (K.written sink.old) (K.written sink.new)) }
-    ensures ran { (mode : AnyMode) → command ≡ Run mode → (end : End) × (result.status ≡ status_of end) × AfterTaking (S.left source.old) (S.left source.new) (λ taken. HasEnded end taken (S.left source.new) (report_to mode (K.written sink.old)) result.journal (K.written sink.new)) }
+    ensures zoned { (format : AnyFormat) → task ≡ ZonesIn format → (result.journal ≡ []) × (end : End) × (result.status ≡ status_of end) × AfterTaking (S.left source.old) (S.left source.new) (λ taken. ZonesHaveEnded format end taken (S.left source.new) (K.written sink.old) (K.written sink.new)) }
+    ensures ran { (mode : AnyMode) → task ≡ Run mode → (end : End) × (result.status ≡ status_of end) × AfterTaking (S.left source.old) (S.left source.new) (λ taken. HasEnded end taken (S.left source.new) (report_to mode (K.written sink.old)) result.journal (K.written sink.new)) }
     ensures read_failed { result.status ≡ 3 → CountsFault (S.faults source.old) (S.faults source.new) S.most_faults }
     ensures write_failed { result.status ≡ 4 → CountsFault (K.faults sink.old) (K.faults sink.new) K.most_faults }
 {
-    match command {
-        Command::Run(mode) => run(alloc, mode, source, sink),
-        Command::Zones(format) => zones(alloc, format, source, sink),
+    match task {
+        Task::Run(mode) => run(alloc, mode, source, sink),
+        Task::Zones(format) => zones(alloc, format, source, sink),
     }
 }
 

@@ -1,8 +1,11 @@
-use Rattle.std.proofs.Common.{◌≡◌, ◌∙◌, ap, sym}
+use Rattle.std.proofs.Common.{◌≡◌, ◌∙◌, List, [], ap, subst, sym}
+use Rattle.scenario.specs.declared.entries.JournalEntry.{JournalEntry}
 use Rattle.mr_shell.specs.Ends.{status_of}
 use Rattle.mr_shell.proofs.Headline.{answered_run, serial_run, visible_run}
+use Rattle.mr_shell.specs.Run.{EndsShort}
 use Rattle.mr_shell.specs.Texts.{report_to}
-use Rattle.mr_shell.specs.declared.commands.Command.TheVariants as commands
+use Rattle.mr_shell.proofs.NothingRead.{nothing_taken, run_short}
+use Rattle.mr_shell.specs.declared.tasks.Task.TheVariants as tasks
 use Rattle.mr_shell.proofs.EndLemmas.{at_fault, at_memory, at_read, at_size, at_whole, at_write}
 use Rattle.mr_shell.proofs.ZoneExact.{zones_finds_fault, zones_finds_size, zones_runs_whole}
 use Rattle.mr_shell.proofs.ZoneStops.{zones_fault, zones_memory, zones_read, zones_size, zones_whole, zones_write}
@@ -12,8 +15,8 @@ use Rattle.mr_shell.proofs.top.top.Goals as goal
 pub returns-in-Some-clause-whole : goal.returns-in-Some-clause-whole
 returns-in-Some-clause-whole g c =
     λ mode asks is.
-    let k = sym c.in-Some.is ∙ (c.command_of.ensures ∙ asks) in
-    let same : c.in-Some.command ≡ commands.Run mode = cc in
+    let k = sym c.in-Some.is ∙ (c.in-Ok.ensures ∙ asks) in
+    let same : c.in-Some.task ≡ tasks.Run mode = cc in
     let e = c.carry_out.ensures.ran mode same in
     let t = e.2 in
     (t.0, t.1, at_whole e.0 t.0 (g.S.Source.left c.carry_out.new.source) (report_to mode (g.K.Sink.written c.args.sink.now)) c.carry_out.result.journal (g.K.Sink.written c.carry_out.new.sink) (sym e.1 ∙ is) t.2)
@@ -21,8 +24,8 @@ returns-in-Some-clause-whole g c =
 pub returns-in-Some-clause-unread : goal.returns-in-Some-clause-unread
 returns-in-Some-clause-unread g c =
     λ mode asks is.
-    let k = sym c.in-Some.is ∙ (c.command_of.ensures ∙ asks) in
-    let same : c.in-Some.command ≡ commands.Run mode = cc in
+    let k = sym c.in-Some.is ∙ (c.in-Ok.ensures ∙ asks) in
+    let same : c.in-Some.task ≡ tasks.Run mode = cc in
     let e = c.carry_out.ensures.ran mode same in
     let t = e.2 in
     (t.0, t.1, at_read e.0 t.0 (g.S.Source.left c.carry_out.new.source) (report_to mode (g.K.Sink.written c.args.sink.now)) c.carry_out.result.journal (g.K.Sink.written c.carry_out.new.sink) (sym e.1 ∙ is) t.2)
@@ -30,8 +33,8 @@ returns-in-Some-clause-unread g c =
 pub returns-in-Some-clause-unwritten : goal.returns-in-Some-clause-unwritten
 returns-in-Some-clause-unwritten g c =
     λ mode asks is.
-    let k = sym c.in-Some.is ∙ (c.command_of.ensures ∙ asks) in
-    let same : c.in-Some.command ≡ commands.Run mode = cc in
+    let k = sym c.in-Some.is ∙ (c.in-Ok.ensures ∙ asks) in
+    let same : c.in-Some.task ≡ tasks.Run mode = cc in
     let e = c.carry_out.ensures.ran mode same in
     let t = e.2 in
     (t.0, t.1, at_write e.0 t.0 (g.S.Source.left c.carry_out.new.source) (report_to mode (g.K.Sink.written c.args.sink.now)) c.carry_out.result.journal (g.K.Sink.written c.carry_out.new.sink) (sym e.1 ∙ is) t.2)
@@ -39,8 +42,8 @@ returns-in-Some-clause-unwritten g c =
 pub returns-in-Some-clause-short : goal.returns-in-Some-clause-short
 returns-in-Some-clause-short g c =
     λ mode asks is.
-    let k = sym c.in-Some.is ∙ (c.command_of.ensures ∙ asks) in
-    let same : c.in-Some.command ≡ commands.Run mode = cc in
+    let k = sym c.in-Some.is ∙ (c.in-Ok.ensures ∙ asks) in
+    let same : c.in-Some.task ≡ tasks.Run mode = cc in
     let e = c.carry_out.ensures.ran mode same in
     let t = e.2 in
     (t.0, t.1, at_memory e.0 t.0 (g.S.Source.left c.carry_out.new.source) (report_to mode (g.K.Sink.written c.args.sink.now)) c.carry_out.result.journal (g.K.Sink.written c.carry_out.new.sink) (sym e.1 ∙ is) t.2)
@@ -48,8 +51,8 @@ returns-in-Some-clause-short g c =
 pub returns-in-Some-clause-too_large : goal.returns-in-Some-clause-too_large
 returns-in-Some-clause-too_large g c =
     λ mode asks is.
-    let k = sym c.in-Some.is ∙ (c.command_of.ensures ∙ asks) in
-    let same : c.in-Some.command ≡ commands.Run mode = cc in
+    let k = sym c.in-Some.is ∙ (c.in-Ok.ensures ∙ asks) in
+    let same : c.in-Some.task ≡ tasks.Run mode = cc in
     let e = c.carry_out.ensures.ran mode same in
     let t = e.2 in
     (t.0, t.1, at_size e.0 t.0 (g.S.Source.left c.carry_out.new.source) (report_to mode (g.K.Sink.written c.args.sink.now)) c.carry_out.result.journal (g.K.Sink.written c.carry_out.new.sink) (sym e.1 ∙ is) t.2)
@@ -57,8 +60,8 @@ returns-in-Some-clause-too_large g c =
 pub returns-in-Some-clause-faulty : goal.returns-in-Some-clause-faulty
 returns-in-Some-clause-faulty g c =
     λ mode asks is.
-    let k = sym c.in-Some.is ∙ (c.command_of.ensures ∙ asks) in
-    let same : c.in-Some.command ≡ commands.Run mode = cc in
+    let k = sym c.in-Some.is ∙ (c.in-Ok.ensures ∙ asks) in
+    let same : c.in-Some.task ≡ tasks.Run mode = cc in
     let e = c.carry_out.ensures.ran mode same in
     let t = e.2 in
     let f = at_fault e.0 t.0 (g.S.Source.left c.carry_out.new.source) (report_to mode (g.K.Sink.written c.args.sink.now)) c.carry_out.result.journal (g.K.Sink.written c.carry_out.new.sink) (sym e.1 ∙ is) t.2 in
@@ -67,8 +70,8 @@ returns-in-Some-clause-faulty g c =
 pub returns-in-Some-clause-runs_whole : goal.returns-in-Some-clause-runs_whole
 returns-in-Some-clause-runs_whole g c =
     λ mode asks known reads writes.
-    let k = sym c.in-Some.is ∙ (c.command_of.ensures ∙ asks) in
-    let same : c.in-Some.command ≡ commands.Run mode = cc in
+    let k = sym c.in-Some.is ∙ (c.in-Ok.ensures ∙ asks) in
+    let same : c.in-Some.task ≡ tasks.Run mode = cc in
     let e = c.carry_out.ensures.ran mode same in
     let t = e.2 in
     rw e.1
@@ -79,8 +82,8 @@ returns-in-Some-clause-runs_whole g c =
 pub returns-in-Some-clause-finds_fault : goal.returns-in-Some-clause-finds_fault
 returns-in-Some-clause-finds_fault g c =
     λ mode asks known reads writes.
-    let k = sym c.in-Some.is ∙ (c.command_of.ensures ∙ asks) in
-    let same : c.in-Some.command ≡ commands.Run mode = cc in
+    let k = sym c.in-Some.is ∙ (c.in-Ok.ensures ∙ asks) in
+    let same : c.in-Some.task ≡ tasks.Run mode = cc in
     let e = c.carry_out.ensures.ran mode same in
     let t = e.2 in
     rw e.1
@@ -91,8 +94,8 @@ returns-in-Some-clause-finds_fault g c =
 pub returns-in-Some-clause-finds_size : goal.returns-in-Some-clause-finds_size
 returns-in-Some-clause-finds_size g c =
     λ mode asks known reads writes.
-    let k = sym c.in-Some.is ∙ (c.command_of.ensures ∙ asks) in
-    let same : c.in-Some.command ≡ commands.Run mode = cc in
+    let k = sym c.in-Some.is ∙ (c.in-Ok.ensures ∙ asks) in
+    let same : c.in-Some.task ≡ tasks.Run mode = cc in
     let e = c.carry_out.ensures.ran mode same in
     let t = e.2 in
     rw e.1
@@ -103,8 +106,8 @@ returns-in-Some-clause-finds_size g c =
 pub returns-in-Some-clause-zones_whole : goal.returns-in-Some-clause-zones_whole
 returns-in-Some-clause-zones_whole g c =
     λ format asks is.
-    let k = sym c.in-Some.is ∙ (c.command_of.ensures ∙ asks) in
-    let same : c.in-Some.command ≡ commands.Zones format = cc in
+    let k = sym c.in-Some.is ∙ (c.in-Ok.ensures ∙ asks) in
+    let same : c.in-Some.task ≡ tasks.Zones format = cc in
     let z = c.carry_out.ensures.zoned format same in
     let e = z.2 in
     let t = z.3 in
@@ -113,8 +116,8 @@ returns-in-Some-clause-zones_whole g c =
 pub returns-in-Some-clause-zones_unread : goal.returns-in-Some-clause-zones_unread
 returns-in-Some-clause-zones_unread g c =
     λ format asks is.
-    let k = sym c.in-Some.is ∙ (c.command_of.ensures ∙ asks) in
-    let same : c.in-Some.command ≡ commands.Zones format = cc in
+    let k = sym c.in-Some.is ∙ (c.in-Ok.ensures ∙ asks) in
+    let same : c.in-Some.task ≡ tasks.Zones format = cc in
     let z = c.carry_out.ensures.zoned format same in
     let e = z.2 in
     let t = z.3 in
@@ -123,8 +126,8 @@ returns-in-Some-clause-zones_unread g c =
 pub returns-in-Some-clause-zones_unwritten : goal.returns-in-Some-clause-zones_unwritten
 returns-in-Some-clause-zones_unwritten g c =
     λ format asks is.
-    let k = sym c.in-Some.is ∙ (c.command_of.ensures ∙ asks) in
-    let same : c.in-Some.command ≡ commands.Zones format = cc in
+    let k = sym c.in-Some.is ∙ (c.in-Ok.ensures ∙ asks) in
+    let same : c.in-Some.task ≡ tasks.Zones format = cc in
     let z = c.carry_out.ensures.zoned format same in
     let e = z.2 in
     let t = z.3 in
@@ -133,8 +136,8 @@ returns-in-Some-clause-zones_unwritten g c =
 pub returns-in-Some-clause-zones_short : goal.returns-in-Some-clause-zones_short
 returns-in-Some-clause-zones_short g c =
     λ format asks is.
-    let k = sym c.in-Some.is ∙ (c.command_of.ensures ∙ asks) in
-    let same : c.in-Some.command ≡ commands.Zones format = cc in
+    let k = sym c.in-Some.is ∙ (c.in-Ok.ensures ∙ asks) in
+    let same : c.in-Some.task ≡ tasks.Zones format = cc in
     let z = c.carry_out.ensures.zoned format same in
     let e = z.2 in
     let t = z.3 in
@@ -143,8 +146,8 @@ returns-in-Some-clause-zones_short g c =
 pub returns-in-Some-clause-zones_too_large : goal.returns-in-Some-clause-zones_too_large
 returns-in-Some-clause-zones_too_large g c =
     λ format asks is.
-    let k = sym c.in-Some.is ∙ (c.command_of.ensures ∙ asks) in
-    let same : c.in-Some.command ≡ commands.Zones format = cc in
+    let k = sym c.in-Some.is ∙ (c.in-Ok.ensures ∙ asks) in
+    let same : c.in-Some.task ≡ tasks.Zones format = cc in
     let z = c.carry_out.ensures.zoned format same in
     let e = z.2 in
     let t = z.3 in
@@ -153,8 +156,8 @@ returns-in-Some-clause-zones_too_large g c =
 pub returns-in-Some-clause-zones_faulty : goal.returns-in-Some-clause-zones_faulty
 returns-in-Some-clause-zones_faulty g c =
     λ format asks is.
-    let k = sym c.in-Some.is ∙ (c.command_of.ensures ∙ asks) in
-    let same : c.in-Some.command ≡ commands.Zones format = cc in
+    let k = sym c.in-Some.is ∙ (c.in-Ok.ensures ∙ asks) in
+    let same : c.in-Some.task ≡ tasks.Zones format = cc in
     let z = c.carry_out.ensures.zoned format same in
     let e = z.2 in
     let t = z.3 in
@@ -164,8 +167,8 @@ returns-in-Some-clause-zones_faulty g c =
 pub returns-in-Some-clause-zones_journal : goal.returns-in-Some-clause-zones_journal
 returns-in-Some-clause-zones_journal g c =
     λ format asks.
-    let k = sym c.in-Some.is ∙ (c.command_of.ensures ∙ asks) in
-    let same : c.in-Some.command ≡ commands.Zones format = cc in
+    let k = sym c.in-Some.is ∙ (c.in-Ok.ensures ∙ asks) in
+    let same : c.in-Some.task ≡ tasks.Zones format = cc in
     (c.carry_out.ensures.zoned format same).0
 
 pub returns-in-Some-clause-serial : goal.returns-in-Some-clause-serial
@@ -180,8 +183,8 @@ returns-in-Some-clause-answered g c lines story r short = answered_run c.carry_o
 pub returns-in-Some-clause-zones_runs_whole : goal.returns-in-Some-clause-zones_runs_whole
 returns-in-Some-clause-zones_runs_whole g c =
     λ format asks known reads writes.
-    let k = sym c.in-Some.is ∙ (c.command_of.ensures ∙ asks) in
-    let same : c.in-Some.command ≡ commands.Zones format = cc in
+    let k = sym c.in-Some.is ∙ (c.in-Ok.ensures ∙ asks) in
+    let same : c.in-Some.task ≡ tasks.Zones format = cc in
     let z = c.carry_out.ensures.zoned format same in
     let e = z.2 in
     let t = z.3 in
@@ -193,8 +196,8 @@ returns-in-Some-clause-zones_runs_whole g c =
 pub returns-in-Some-clause-zones_finds_fault : goal.returns-in-Some-clause-zones_finds_fault
 returns-in-Some-clause-zones_finds_fault g c =
     λ format asks known reads writes.
-    let k = sym c.in-Some.is ∙ (c.command_of.ensures ∙ asks) in
-    let same : c.in-Some.command ≡ commands.Zones format = cc in
+    let k = sym c.in-Some.is ∙ (c.in-Ok.ensures ∙ asks) in
+    let same : c.in-Some.task ≡ tasks.Zones format = cc in
     let z = c.carry_out.ensures.zoned format same in
     let e = z.2 in
     let t = z.3 in
@@ -206,8 +209,8 @@ returns-in-Some-clause-zones_finds_fault g c =
 pub returns-in-Some-clause-zones_finds_size : goal.returns-in-Some-clause-zones_finds_size
 returns-in-Some-clause-zones_finds_size g c =
     λ format asks known reads writes.
-    let k = sym c.in-Some.is ∙ (c.command_of.ensures ∙ asks) in
-    let same : c.in-Some.command ≡ commands.Zones format = cc in
+    let k = sym c.in-Some.is ∙ (c.in-Ok.ensures ∙ asks) in
+    let same : c.in-Some.task ≡ tasks.Zones format = cc in
     let z = c.carry_out.ensures.zoned format same in
     let e = z.2 in
     let t = z.3 in
@@ -215,3 +218,13 @@ returns-in-Some-clause-zones_finds_size g c =
     (zones_finds_size format z.1 (g.S.Source.left c.args.source.now) (g.S.Source.left c.carry_out.new.source) (g.K.Sink.written c.args.sink.now) t.0 (g.K.Sink.written c.carry_out.new.sink) t.1 known t.2
     (λ read. reads (c.carry_out.ensures.read_failed (e ∙ ap status_of read)))
     (λ write. writes (c.carry_out.ensures.write_failed (e ∙ ap status_of write))))
+
+pub returns-in_default-clause-short : goal.returns-in_default-clause-short
+returns-in_default-clause-short g c =
+    λ mode asks is.
+    let left = g.S.Source.left c.args.source.now in
+    let start = g.K.Sink.written c.args.sink.now in (
+      [],
+      nothing_taken left,
+      subst (λ (journal : List JournalEntry). EndsShort [] left (report_to mode start) journal start) (sym c.out_of_memory.ensures.journal) (run_short mode left start),
+    )

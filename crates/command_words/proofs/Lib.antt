@@ -1,0 +1,11 @@
+pub mod Reader
+pub mod RowLemmas
+pub mod Turns
+pub mod WordForms
+pub mod Dashed
+pub mod Holding
+pub mod Joined
+pub mod AllWords
+pub mod Answer
+pub mod Outcome
+pub mod MatchLemmas

@@ -1,0 +1,68 @@
+//! What words are a command.
+
+use super::*;
+use std::alloc::Global;
+use std::test::Fail;
+
+const RUN: Option<Command> = Some(Command::Run { trace: false });
+
+const TRACED: Option<Command> = Some(Command::Run { trace: true });
+
+const ZONES: Option<Command> = Some(Command::Zones { json: false });
+
+const AS_JSON: Option<Command> = Some(Command::Zones { json: true });
+
+/// Words, and the command that they are.
+static TABLE: [(&[&str], Option<Command>); 33] = [
+    (&["run"], RUN),
+    (&["zones"], ZONES),
+    (&["run", "--trace"], TRACED),
+    (&["--trace", "run"], TRACED),
+    (&["zones", "--json"], AS_JSON),
+    (&["--json", "zones"], AS_JSON),
+    (&["run", "--json"], None),
+    (&["zones", "--trace"], None),
+    (&["run", "--trace", "--json"], None),
+    (&["run", "--trace", "--trace"], None),
+    (&["--json", "zones", "--json"], None),
+    (&["run", "--", "--trace"], None),
+    (&["--", "run"], RUN),
+    (&["--trace", "--", "run"], TRACED),
+    (&["run", "--"], RUN),
+    (&["run", "--", "--"], None),
+    (&[], None),
+    (&["--"], None),
+    (&["-"], None),
+    (&["run", "-"], None),
+    (&["run", "zones"], None),
+    (&["run", "run", "run", "run"], None),
+    (&["--tra", "run"], None),
+    (&["--trace=1", "run"], None),
+    (&["-t", "run"], None),
+    (&["-1", "run"], None),
+    (&["--help"], None),
+    (&["--version"], None),
+    (&["help"], None),
+    (&[""], None),
+    (&["Run"], None),
+    (&["run", "-h"], None),
+    (&["run", "--="], None),
+];
+
+/// The command that these words are.
+fn command_of_texts(alloc: Global, words: &[&str]) -> Result<Option<Command>, Fail> {
+    let mut owned = Vec::new(alloc);
+    for word in words {
+        owned.push(String::from_str(alloc, word)?)?;
+    }
+    Ok(command_of(alloc, owned.as_slice())?)
+}
+
+#[test]
+fn words_are_commands(rt: HostRuntime) -> Result<(), Fail> {
+    for (words, command) in TABLE.as_slice() {
+        let found = command_of_texts(rt.alloc(), words)?;
+        assert!(rt; found == *command, "{words:?}");
+    }
+    Ok(())
+}
