@@ -1,6 +1,6 @@
 //! Whether a configuration is one that some database and table have.
 
-ghost use Rattle.std.specs.Prelude.{◌≡◌, ◌↔◌, ◌∷◌, [], ◌≤◌, All, Contains, IsTrue, IsUtf8, Some, length, map, max};
+ghost use Rattle.std.specs.Prelude.{◌≡◌, ◌↔◌, ◌∷◌, [], ◌≤◌, All, Contains, IsTrue, IsUtf8, Some, map, max};
 ghost use Rattle.std.specs.List.{list_any};
 ghost use Rattle.std.specs.Str.{bytes_eq};
 ghost use Rattle.descriptors.specs.Sound.{AreDistinct};
