@@ -3,7 +3,7 @@ mod Creations
 mod Edits
 pub mod Found
 mod Index
-mod Kept
+pub mod Kept
 mod Limits
 mod Regions
 mod Samples

@@ -1,7 +1,6 @@
 use Rattle.std.proofs.Common.{◌≡◌, ℕ, Bool, List, [], ◌∷◌, ◌++◌, All, IsUtf8, refl, ap, sym, subst}
 use Rattle.std.proofs.lemmas.List.Elements.{All-push}
 use Rattle.region_sql.specs.declared.region_statements.ColumnKey.{ColumnKey}
-use Rattle.region_sql.specs.declared.region_statements.ColumnKey.TheVariants.{Plain, Primary, Unique}
 use Rattle.region_sql.specs.declared.region_statements.ColumnType.{ColumnType}
 use Rattle.region_sql.specs.declared.region_statements.Item.{Item}
 use Rattle.region_sql.specs.declared.region_statements.Item.TheVariants.{Column, Key}

@@ -1,6 +1,6 @@
 //! The catalog of databases and tables.
 
-ghost use Rattle.std.specs.Prelude.{◌≡◌, ◌⊎◌, [], IfErr, IfOk, IsUtf8, None, OnErr, OnOk, Some};
+ghost use Rattle.std.specs.Prelude.{◌≡◌, ◌⊎◌, [], IfErr, IfOk, None, OnErr, OnOk, Some};
 ghost use Rattle.std.specs.Option.{option_copied};
 ghost use Rattle.descriptors.specs.Changes.{after, NewNamesAreUtf8};
 ghost use Rattle.descriptors.specs.Contents.{database_named, current_table};

@@ -1,6 +1,6 @@
 //! A database and its regions.
 
-ghost use Rattle.std.specs.Prelude.{◌≡◌, ◌++◌, ◌∷◌, [], Some, OnOk, OnErr, position, option_and_then};
+ghost use Rattle.std.specs.Prelude.{◌≡◌, Some, OnOk, OnErr, position, option_and_then};
 ghost use Rattle.std.specs.Option.{option_copied};
 ghost use Rattle.std.specs.Str.{bytes_eq};
 

@@ -1,4 +1,5 @@
 pub mod Fitting
+pub mod Laws
 pub mod Majority
 pub mod Placing
 pub mod Tests

@@ -6,9 +6,10 @@ use Rattle.std.proofs.lemmas.Bool.Decides.{nat_tests}
 use Rattle.std.proofs.lemmas.List.Elements.{All-cons, All-nil}
 use Rattle.std.proofs.lemmas.Slice.Eq.{bytes_eq-Decides}
 use Rattle.std.proofs.lemmas.Str.{IsUtf8-from_ascii}
+use Rattle.region_sql.specs.declared.region_statements.ColumnType.TheVariants.{Int}
 use Rattle.descriptors.specs.declared.database.Database.{Database}
 use Rattle.descriptors.specs.declared.table.Table.{Table}
-use Rattle.descriptors.specs.Sound.{AreDistinct, IsSoundDatabase, IsSoundIn}
+use Rattle.descriptors.specs.Sound.{AreDistinct, IsSoundDatabase, IsSoundIn, IsSoundTable}
 use Rattle.zone_compile.specs.Examples.{IsExample, IsExampleTable, example_regions}
 
 both : (a b : Bool) → (a && b) ≡ true → (a ≡ true) × (b ≡ true)
@@ -35,7 +36,7 @@ three_pairs R a b c p q r (suc zero) (suc (suc zero)) d low high = r
 three_pairs R a b c p q r (suc (suc i)) (suc (suc zero)) d low high = absurd (omega arith)
 three_pairs R a b c p q r i (suc (suc (suc j))) d low high = absurd (omega arith)
 
-one_pairs : {A : Type 0} (R : A → A → Type 0) (a : A) → AllPairs R (a ∷ [])
+pub one_pairs : {A : Type 0} (R : A → A → Type 0) (a : A) → AllPairs R (a ∷ [])
 one_pairs R a i j d low high = absurd (omega arith)
 
 three_texts : All IsUtf8 example_regions
@@ -59,21 +60,27 @@ example_is_sound d e = record {
   restricted = λ r. (rw e.regions (λ none. cc), e.restricted r);
 }
 
+pub name_is_text : IsUtf8 (codes "d")
+name_is_text = text_of (codes "d") refl
+
+pub one_column_is_sound : (t : Table) → t.name ≡ codes "t" → t.columns ≡ (codes "id", Int) ∷ [] → t.key ≡ 0 ∷ [] → t.unique ≡ [] → IsSoundTable t
+one_column_is_sound t name columns key unique = record {
+  name = rw name (text_of (codes "t") refl);
+  columns = rw columns (All-cons (λ c. IsUtf8 c.0) _ [] (text_of (codes "id") refl) (All-nil (λ c. IsUtf8 c.0)));
+  some = rw columns (omega arith);
+  few = rw columns (omega arith);
+  named = rw columns (one_pairs (λ x y. x ≢ y) (codes "id"));
+  not_hidden = rw columns (All-cons (λ c. c.0 ≢ codes "crdb_region") _ [] (differ (codes "id") (codes "crdb_region") refl) (All-nil (λ c. c.0 ≢ codes "crdb_region")));
+  key = rw key (omega arith);
+  key_distinct = rw key (one_pairs (λ x y. x ≢ y) 0);
+  key_places = rw (key, columns) (All-cons (λ k. k < 1) 0 [] (omega arith) (All-nil (λ k. k < 1)));
+  unique_rises = rw unique (λ i j d low high. absurd (omega arith));
+  unique_places = rw unique (λ k d high. absurd (omega arith));
+}
+
 pub example_table_is_sound : (d : Database) (t : Table) → IsExample d → IsExampleTable t → IsSoundIn d t
 example_table_is_sound d t e f = record {
-  table = record {
-    name = rw f.name (text_of (codes "t") refl);
-    columns = rw f.columns (All-cons (λ c. IsUtf8 c.0) _ [] (text_of (codes "id") refl) (All-nil (λ c. IsUtf8 c.0)));
-    some = rw f.columns (omega arith);
-    few = rw f.columns (omega arith);
-    named = rw f.columns (one_pairs (λ x y. x ≢ y) (codes "id"));
-    not_hidden = rw f.columns (All-cons (λ c. c.0 ≢ codes "crdb_region") _ [] (differ (codes "id") (codes "crdb_region") refl) (All-nil (λ c. c.0 ≢ codes "crdb_region")));
-    key = rw f.key (omega arith);
-    key_distinct = rw f.key (one_pairs (λ x y. x ≢ y) 0);
-    key_places = rw (f.key, f.columns) (All-cons (λ k. k < 1) 0 [] (omega arith) (All-nil (λ k. k < 1)));
-    unique_rises = rw f.unique (λ i j d low high. absurd (omega arith));
-    unique_places = rw f.unique (λ k d high. absurd (omega arith));
-  };
+  table = one_column_is_sound t f.name f.columns f.key f.unique;
   database = f.database ∙ sym e.name;
   locality = rw (f.locality, e.regions) (λ none. cc);
 }

@@ -2,3 +2,4 @@ pub mod ExampleFacts
 pub mod Forms
 pub mod JsonLemmas
 mod Formed
+mod OfTables

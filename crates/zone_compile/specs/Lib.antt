@@ -2,4 +2,5 @@ pub mod Configuration
 pub mod Examples
 pub mod Json
 pub mod JsonMembers
+pub mod Laws
 pub mod Text

@@ -1,6 +1,6 @@
 //! Configurations from databases and tables.
 
-ghost use Rattle.std.specs.Prelude.{◌≡◌, ◌≤◌, [], ◌∷◌, length, IfOk, IsTrue, Some, option_map};
+ghost use Rattle.std.specs.Prelude.{◌≡◌, ◌≤◌, [], ◌∷◌, length, IfOk, Some, option_map};
 ghost use Rattle.descriptors.specs.Sound.{IsSoundDatabase, IsSoundIn};
 ghost use Rattle.zone_compile.specs.Configuration.{HasForm, IsPartitionOf, NamesTexts, configuration, home_of, is_global, kept_at, one_in_each, spread_over, without_regions};
 

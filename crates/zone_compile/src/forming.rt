@@ -1,6 +1,6 @@
 //! Whether a configuration is one that some database and table have.
 
-ghost use Rattle.std.specs.Prelude.{◌≡◌, ◌∷◌, [], ◌≤◌, All, Contains, IsTrue, IsUtf8, Some, length, map, max};
+ghost use Rattle.std.specs.Prelude.{◌≡◌, ◌↔◌, ◌∷◌, [], ◌≤◌, All, Contains, IsTrue, IsUtf8, Some, map, max};
 ghost use Rattle.std.specs.List.{list_any};
 ghost use Rattle.std.specs.Str.{bytes_eq};
 ghost use Rattle.descriptors.specs.Sound.{AreDistinct};
@@ -12,7 +12,8 @@ use region_sql::Goal;
 
 /// Whether some database and table have this configuration.
 pub fn is_form(c: &ZoneConfig) -> bool
-    ensures { IsTrue result → HasForm c.now }
+    ensures has_form { IsTrue result → HasForm c.now }
+    ensures recognised { HasForm c.now → IsTrue result }
 {
     let Some(home) = &c.lease else {
         return is_without_regions(c);
@@ -27,7 +28,7 @@ pub fn is_form(c: &ZoneConfig) -> bool
 }
 
 fn is_without_regions(c: &ZoneConfig) -> bool
-    ensures { IsTrue result → c.now ≡ without_regions }
+    ensures { IsTrue result ↔ (c.now ≡ without_regions) }
 {
     if c.num_replicas != 1 || c.num_voters != 1 || c.global_reads {
         return false;
@@ -40,8 +41,7 @@ fn is_without_regions(c: &ZoneConfig) -> bool
 
 fn is_kept_at(c: &ZoneConfig, home: &Bytes) -> bool
     requires lease { c.now.lease ≡ Some home.now }
-    ensures text { IsTrue result → IsUtf8 home.now }
-    ensures config { IsTrue result → c.now ≡ kept_at home.now }
+    ensures { IsTrue result ↔ (IsUtf8 home.now × (c.now ≡ kept_at home.now)) }
 {
     if !is_text(home) {
         return false;
@@ -61,21 +61,15 @@ fn is_kept_at(c: &ZoneConfig, home: &Bytes) -> bool
 fn is_spread_over(c: &ZoneConfig, home: &Bytes, goal: Goal) -> bool
     requires lease { c.now.lease ≡ Some home.now }
     requires goal { c.now.goal ≡ Some goal }
-    ensures home { IsTrue result → IsAtHome goal (map (λ k. k.0) c.now.constraints) home.now }
-    ensures config { IsTrue result → c.now ≡ spread_over goal (map (λ k. k.0) c.now.constraints) home.now c.now.global_reads }
+    ensures { let regions = map (λ k. k.0) c.now.constraints in IsTrue result ↔ (IsAtHome goal regions home.now × (c.now ≡ spread_over goal regions home.now c.now.global_reads)) }
 {
-    if !are_regions(c.constraints.as_slice(), home) {
+    if !is_at_home(goal, c.constraints.as_slice(), home) {
         return false;
     }
     let others = (c.constraints.len() as u32).saturating_sub(1);
     match goal {
         Goal::Zone => has_numbers(c, home, 3 + others, 3, 3),
-        Goal::Region => {
-            if c.constraints.len() < 3 {
-                return false;
-            }
-            has_numbers(c, home, at_least_five(2 + others), 5, 2)
-        }
+        Goal::Region => has_numbers(c, home, at_least_five(2 + others), 5, 2),
     }
 }
 
@@ -85,14 +79,14 @@ fn at_least_five(count: u32) -> u32
     5.max(count)
 }
 
-/// Whether these are the regions of a database, and this is one of them.
-fn are_regions(counts: &[(Bytes, u32)], home: &Bytes) -> bool
-    ensures texts { IsTrue result → All (λ k. IsUtf8 k.0) counts.now }
-    ensures few { IsTrue result → length counts.now ≤ 16 }
-    ensures distinct { IsTrue result → AreDistinct (map (λ k. k.0) counts.now) }
-    ensures home { IsTrue result → Contains (map (λ k. k.0) counts.now) home.now }
+/// Whether these are the regions of a database with this goal, and home is one of them.
+fn is_at_home(goal: Goal, counts: &[(Bytes, u32)], home: &Bytes) -> bool
+    ensures { IsTrue result ↔ IsAtHome goal (map (λ k. k.0) counts.now) home.now }
 {
     if counts.len() > 16 {
+        return false;
+    }
+    if !are_enough(goal, counts.len()) {
         return false;
     }
     if !are_texts(counts) {
@@ -104,12 +98,19 @@ fn are_regions(counts: &[(Bytes, u32)], home: &Bytes) -> bool
     has_region(counts, home)
 }
 
+/// Whether a database with this goal may have so many regions.
+fn are_enough(goal: Goal, regions: usize) -> bool
+    ensures { IsTrue result ↔ (goal ≡ Goal.Region → 3 ≤ regions) }
+{
+    match goal {
+        Goal::Zone => true,
+        Goal::Region => 3 <= regions,
+    }
+}
+
 /// Whether a configuration has these numbers, and one replica in each region.
 fn has_numbers(c: &ZoneConfig, home: &Bytes, replicas: u32, voters: u32, at_home: u32) -> bool
-    ensures replicas { IsTrue result → c.now.num_replicas ≡ replicas }
-    ensures voters { IsTrue result → c.now.num_voters ≡ voters }
-    ensures ones { IsTrue result → All (λ k. k.1 ≡ 1) c.now.constraints }
-    ensures only { IsTrue result → c.now.voter_constraints ≡ (home.now, at_home) ∷ [] }
+    ensures { IsTrue result ↔ ((c.now.num_replicas ≡ replicas) × (c.now.num_voters ≡ voters) × All (λ k. k.1 ≡ 1) c.now.constraints × (c.now.voter_constraints ≡ (home.now, at_home) ∷ [])) }
 {
     if c.num_replicas != replicas {
         return false;
@@ -125,7 +126,7 @@ fn has_numbers(c: &ZoneConfig, home: &Bytes, replicas: u32, voters: u32, at_home
 
 /// Whether the one count is this.
 fn is_only(counts: &[(Bytes, u32)], region: &Bytes, count: u32) -> bool
-    ensures { IsTrue result → counts.now ≡ (region.now, count) ∷ [] }
+    ensures { IsTrue result ↔ (counts.now ≡ (region.now, count) ∷ []) }
 {
     let Some((first, more)) = counts.split_first() else {
         return false;
@@ -140,13 +141,13 @@ fn is_only(counts: &[(Bytes, u32)], region: &Bytes, count: u32) -> bool
 }
 
 fn is_text(bytes: &Bytes) -> bool
-    ensures { IsTrue result → IsUtf8 bytes.now }
+    ensures { IsTrue result ↔ IsUtf8 bytes.now }
 {
     str::from_utf8(bytes.as_slice()).is_ok()
 }
 
 fn are_texts(counts: &[(Bytes, u32)]) -> bool
-    ensures { IsTrue result → All (λ k. IsUtf8 k.0) counts.now }
+    ensures { IsTrue result ↔ All (λ k. IsUtf8 k.0) counts.now }
 {
     for count in counts {
         if !is_text(&count.0) {
@@ -157,7 +158,7 @@ fn are_texts(counts: &[(Bytes, u32)]) -> bool
 }
 
 fn are_ones(counts: &[(Bytes, u32)]) -> bool
-    ensures { IsTrue result → All (λ k. k.1 ≡ 1) counts.now }
+    ensures { IsTrue result ↔ All (λ k. k.1 ≡ 1) counts.now }
 {
     for count in counts {
         if count.1 != 1 {
@@ -174,13 +175,13 @@ fn names_region(counts: &[(Bytes, u32)], region: &Bytes) -> bool
 }
 
 fn has_region(counts: &[(Bytes, u32)], region: &Bytes) -> bool
-    ensures { IsTrue result → Contains (map (λ k. k.0) counts.now) region.now }
+    ensures { IsTrue result ↔ Contains (map (λ k. k.0) counts.now) region.now }
 {
     names_region(counts, region)
 }
 
 fn are_distinct(counts: &[(Bytes, u32)]) -> bool
-    ensures { IsTrue result → AreDistinct (map (λ k. k.0) counts.now) }
+    ensures { IsTrue result ↔ AreDistinct (map (λ k. k.0) counts.now) }
 {
     for (i, count) in counts.iter().enumerate() {
         if names_region(&counts[..i], &count.0) {

@@ -1,6 +1,6 @@
 //! Configurations of databases with three to six regions, in their exact bytes.
 
-ghost use Rattle.std.specs.Prelude.{◌≡◌, length, true, IfOk};
+ghost use Rattle.std.specs.Prelude.{◌≡◌, true, IfOk};
 ghost use Rattle.zone_compile.specs.Examples.{IsExample, IsExampleTable};
 
 use super::*;
@@ -60,62 +60,52 @@ fn the_worked_example_as_json(rt: HostRuntime) -> Result<(), Fail> {
     Ok(())
 }
 
+const EVERYWHERE: &[u8] = b"'{+region=us-east: 1, +region=us-west: 1, +region=eu-west: 1}'";
+
+const ALL_AT_HOME: &[u8] = b"'[+region=us-east]'";
+
+/// Whether a table of this locality in that database has the text of these numbers and lists.
+fn has_text(
+    alloc: Global,
+    (goal, restricted, locality): (Goal, bool, Locality),
+    numbers: &[u8],
+    constraints: &[u8],
+    voters: &[u8],
+) -> Result<bool, Memory> {
+    let mut d = three_regions(alloc, Goal::Zone, false)?;
+    d.goal = goal;
+    d.restricted = restricted;
+    let c = configuration(alloc, &d, &Some(locality), None)?;
+    let mut expected = Vec::new(alloc);
+    for part in [
+        numbers,
+        b", constraints = ",
+        constraints,
+        b", voter_constraints = ",
+        voters,
+        b", lease_preferences = '[[+region=us-east]]'",
+    ] {
+        expected.extend_from_slice(part)?;
+    }
+    Ok(text(alloc, &c)?.as_slice() == expected.as_slice())
+}
+
 #[test]
 fn texts_of_three_regions(rt: HostRuntime) -> Result<(), Fail> {
     let alloc = rt.alloc();
-    let everywhere: &[u8] = b"'{+region=us-east: 1, +region=us-west: 1, +region=eu-west: 1}'";
-    let cases: [(Goal, bool, Locality, &[u8], &[u8], &[u8]); 4] = [
-        (
-            Goal::Zone,
-            false,
-            Locality::InPrimary,
-            b"num_replicas = 5, num_voters = 3",
-            everywhere,
-            b"'[+region=us-east]'",
-        ),
-        (
-            Goal::Region,
-            false,
-            Locality::InPrimary,
-            b"num_replicas = 5, num_voters = 5",
-            everywhere,
-            b"'{+region=us-east: 2}'",
-        ),
-        (
-            Goal::Zone,
-            true,
-            Locality::InPrimary,
-            b"num_replicas = 3, num_voters = 3",
-            b"'[]'",
-            b"'[+region=us-east]'",
-        ),
-        (
-            Goal::Zone,
-            true,
-            Locality::Global,
-            b"global_reads = true, num_replicas = 5, num_voters = 3",
-            everywhere,
-            b"'[+region=us-east]'",
-        ),
-    ];
-    for (goal, restricted, locality, numbers, constraints, voters) in cases {
-        let mut d = three_regions(alloc, Goal::Zone, false)?;
-        d.goal = goal;
-        d.restricted = restricted;
-        let c = configuration(alloc, &d, &Some(locality), None)?;
-        let mut expected = Vec::new(alloc);
-        for part in [
-            numbers,
-            b", constraints = ",
-            constraints,
-            b", voter_constraints = ",
-            voters,
-            b", lease_preferences = '[[+region=us-east]]'",
-        ] {
-            expected.extend_from_slice(part)?;
-        }
-        assert!(rt; text(alloc, &c)?.as_slice() == expected.as_slice());
-    }
+    let zone = b"num_replicas = 5, num_voters = 3";
+    let region = b"num_replicas = 5, num_voters = 5";
+    let restricted = b"num_replicas = 3, num_voters = 3";
+    let global = b"global_reads = true, num_replicas = 5, num_voters = 3";
+    let two_at_home = b"'{+region=us-east: 2}'";
+    let kind = (Goal::Zone, false, Locality::InPrimary);
+    assert!(rt; has_text(alloc, kind, zone, EVERYWHERE, ALL_AT_HOME)?);
+    let kind = (Goal::Region, false, Locality::InPrimary);
+    assert!(rt; has_text(alloc, kind, region, EVERYWHERE, two_at_home)?);
+    let kind = (Goal::Zone, true, Locality::InPrimary);
+    assert!(rt; has_text(alloc, kind, restricted, b"'[]'", ALL_AT_HOME)?);
+    let kind = (Goal::Zone, true, Locality::Global);
+    assert!(rt; has_text(alloc, kind, global, EVERYWHERE, ALL_AT_HOME)?);
     Ok(())
 }
 

@@ -1,5 +1,5 @@
 -- The regions that configurations name.
-use Rattle.std.proofs.Common.{◌≡◌, ◌≢◌, ◌⊎◌, ℕ, ◌<◌, ◌&&◌, Bool, true, false, cond, not, List, [], ◌∷◌, Option, None, Some, All, Any, Contains, IsTrue, length, map, get_or, slice_get, option_and_then, refl, ap, sym, ◌∙◌, subst, arith, inl, inr}
+use Rattle.std.proofs.Common.{◌≡◌, ℕ, ◌&&◌, Bool, true, false, cond, not, List, [], ◌∷◌, Option, None, Some, All, Contains, IsTrue, length, map, get_or, slice_get, option_and_then, refl, ap, sym, ◌∙◌, subst, arith, inl, inr}
 use Rattle.std.proofs.lemmas.List.Elements.{All-contains}
 use Rattle.std.proofs.lemmas.Option.{none-some, same_Some, slice_get_within, get_or_from_slice_get}
 use Rattle.mr_base.specs.declared.nodes.NodeInfo.{NodeInfo}
@@ -15,10 +15,10 @@ use Rattle.descriptors.specs.Sound.{FitsRegions, IsSoundAmong, IsSoundCatalog, I
 use Rattle.descriptors.proofs.Found.{found, named}
 use Rattle.descriptors.specs.Contents.{is_database}
 use Rattle.zone_compile.specs.declared.config.ZoneConfig.{ZoneConfig}
-use Rattle.zone_compile.specs.Configuration.{configuration, configuration_at, home_of, is_global, kept_at, one_in_each, spread_over, without_regions}
-use Rattle.placement.specs.Fitting.{Names, ServeFor, constrained_regions}
+use Rattle.zone_compile.specs.Configuration.{configuration_at, home_of, is_global, kept_at, one_in_each, spread_over, without_regions}
+use Rattle.placement.specs.Fitting.{Names, ServeFor}
 use Rattle.zone_report.specs.Nodes.{Serve}
-use Rattle.zone_report.specs.Ranges.{partitions, place_of, range_at}
+use Rattle.zone_report.specs.Ranges.{place_of, range_at}
 
 none_in : (regions : List (List ℕ)) (region : List ℕ) → length regions ≡ 0 → Contains regions region → ⊥
 none_in regions region none c = omega (arith, c.1)

@@ -3,4 +3,6 @@ mod Lines
 mod Names
 mod Nodes
 mod Placeable
+mod Placed
+mod RangesOf
 mod Tokens

@@ -1,14 +1,12 @@
 -- The new names of a region statement are texts.
-use Rattle.std.proofs.Common.{◌≡◌, ◌⊎◌, ℕ, List, [], ◌∷◌, ◌++◌, Option, None, Some, All, IsUtf8, refl, sym, ap, ◌∙◌, subst, inl, inr, codes, rules, Err}
+use Rattle.std.proofs.Common.{◌≡◌, ℕ, List, [], ◌∷◌, Option, None, Some, All, IsUtf8, sym, ap, ◌∙◌, subst, inl, inr, codes, rules, Err}
 use Rattle.std.proofs.lemmas.List.Elements.{All-cons, All-nil}
 use Rattle.std.proofs.lemmas.Option.{none-some, same_Some}
 use Rattle.region_sql.specs.declared.region_statements.ColumnType.{ColumnType}
 use Rattle.region_sql.specs.declared.region_statements.Goal.{Goal}
 use Rattle.region_sql.specs.declared.region_statements.Item.{Item}
 use Rattle.region_sql.specs.declared.region_statements.Item.TheVariants as items
-use Rattle.region_sql.specs.declared.region_statements.Locality.{Locality}
 use Rattle.region_sql.specs.declared.region_statements.RegionStatement.{RegionStatement}
-use Rattle.region_sql.specs.declared.region_statements.RegionStatement.TheVariants as regions
 use Rattle.region_sql.specs.declared.row_statements.RowStatement.{RowStatement}
 use Rattle.region_sql.specs.declared.statements.Statement.{Statement}
 use Rattle.region_sql.specs.declared.statements.Statement.TheVariants as statements
@@ -21,8 +19,8 @@ use Rattle.region_sql.specs.declared.statements.ParseFault.{ParseFault}
 use Rattle.region_sql.specs.declared.statements.ParseFault.TheVariants as faults
 use Rattle.region_sql.specs.Faults.{IfSyntax}
 use Rattle.region_sql.specs.Tokens.{sign_number}
-use Rattle.region_sql.specs.Forms.{AreListed, Fits, Form, as_value, both, either}
-use Rattle.region_sql.specs.Grammar.{IsStatementText, alter, alteration, altered_database, altered_table, column, column_key, column_type, create, item, item_list, made_database, mark, word, name, name_in, new_database, new_table, not_null, region_statement, statement, used, ◌▸◌, ◌◂◌}
+use Rattle.region_sql.specs.Forms.{AreListed, Fits, Form, as_value, either}
+use Rattle.region_sql.specs.Grammar.{IsStatementText, alter, alteration, altered_database, altered_table, column, create, item, item_list, made_database, mark, word, name, name_in, new_database, new_table, region_statement, statement, used, ◌▸◌, ◌◂◌}
 use Rattle.descriptors.specs.Changes.{NewNamesAreUtf8}
 use Rattle.descriptors.specs.Columns.{columns_of}
 use Rattle.zone_report.proofs.Tokens.{AreTexts, IsText, texts_back, texts_front, texts_of}

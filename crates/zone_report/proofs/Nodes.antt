@@ -1,5 +1,5 @@
 -- The nodes of a cluster.
-use Rattle.std.proofs.Common.{◌≡◌, ◌≢◌, ◌⊎◌, ℕ, ◌+◌, ◌<◌, List, length, get_or, [], ◌∷◌, ◌++◌, Bool, true, false, cond, None, All, AllPairs, Contains, fold, map, refl, ap, sym, ◌∙◌, subst, arith, inl, inr, IsUtf8}
+use Rattle.std.proofs.Common.{◌≡◌, ◌≢◌, ◌⊎◌, ℕ, ◌+◌, ◌<◌, List, length, get_or, [], ◌∷◌, ◌++◌, Bool, true, false, cond, None, All, Contains, fold, map, refl, ap, sym, ◌∙◌, subst, arith, inl, inr, IsUtf8}
 use Rattle.std.proofs.lemmas.Bool.{cases_eq}
 use Rattle.std.proofs.lemmas.List.{get_or_default}
 use Rattle.std.proofs.lemmas.List.{length-map, get_or-map}
@@ -11,7 +11,7 @@ use Rattle.descriptors.specs.Lists.{has_name}
 use Rattle.descriptors.specs.Sound.{AreDistinct, IsCluster}
 use Rattle.descriptors.proofs.Found.{not_named}
 use Rattle.zone_report.specs.Nodes.{AreNodes, Serve, regions_of, with_region}
-use Rattle.zone_report.specs.Statements.{IsPlaceable, Zoned}
+use Rattle.zone_report.specs.Statements.{IsPlaceable}
 
 -- One more node that has P.
 pub one_more : (P : ℕ → NodeInfo → Type 0) (nodes : List NodeInfo) (i : ℕ) (node : NodeInfo) → i < length nodes → node ≡ get_or nodes i node → P i node → ((k : ℕ) (other : NodeInfo) → k < i → P k (get_or nodes k other)) → (k : ℕ) (other : NodeInfo) → k < i + 1 → P k (get_or nodes k other)

@@ -1,12 +1,11 @@
 -- Ranges that can't be placed.
-use Rattle.std.proofs.Common.{◌≡◌, ◌⊎◌, ℕ, zero, suc, ◌+◌, ◌<◌, ◌≤◌, Bool, true, false, cond, List, [], ◌∷◌, ◌++◌, Option, None, Some, All, Contains, length, take, drop, map, get_or, slice_get, option_and_then, refl, ap, sym, ◌∙◌, subst, arith, inl, inr, append-nil, is_some, true≢false}
+use Rattle.std.proofs.Common.{◌≡◌, ℕ, zero, suc, ◌+◌, ◌<◌, ◌≤◌, Bool, true, false, cond, List, [], ◌∷◌, ◌++◌, Option, None, Some, Contains, length, take, map, get_or, slice_get, option_and_then, refl, ap, sym, ◌∙◌, subst, arith, append-nil, is_some, true≢false}
 use Rattle.std.specs.List.{flat_map, range_with_len}
 use Rattle.std.specs.Option.{option_map_or, option_or}
 use Rattle.std.proofs.lemmas.Grind.{flat_map-append}
 use Rattle.std.proofs.lemmas.List.{take_all, take_more}
-use Rattle.std.proofs.lemmas.List.Elements.{All-contains}
-use Rattle.std.proofs.lemmas.List.FromFn.{length-map-range_with_len, get_or-map-range_with_len, take-map-range_with_len}
-use Rattle.std.proofs.lemmas.Option.{none-some, same_Some}
+use Rattle.std.proofs.lemmas.List.FromFn.{length-map-range_with_len, get_or-map-range_with_len}
+use Rattle.std.proofs.lemmas.Option.{none-some}
 use Rattle.mr_base.specs.declared.nodes.NodeInfo.{NodeInfo}
 use Rattle.region_sql.specs.declared.region_statements.RegionStatement.{RegionStatement}
 use Rattle.region_sql.specs.declared.region_statements.RegionStatement.TheVariants.{CreateDatabase, Use, SetPrimary, AddRegion, DropRegion, Survive, Placement, CreateTable, SetLocality}

@@ -3,6 +3,7 @@
 
 mod changes;
 mod lacks;
+mod laws;
 mod line_parts;
 mod partitions;
 mod refused;
@@ -12,6 +13,7 @@ mod same;
 mod statements;
 mod zones;
 
+pub use laws::ranges_are_placed;
 pub use refused::SqlRefusal;
 pub use regions::are_nodes;
 pub use report::Format;

@@ -1,10 +1,9 @@
 //! The ranges of a table.
 
-ghost use Rattle.std.specs.Prelude.{◌≡◌, ◌<◌, Contains, IfOk, option_and_then, slice_get};
+ghost use Rattle.std.specs.Prelude.{◌≡◌, ◌<◌, IfOk};
 ghost use Rattle.std.specs.Option.{option_copied};
 ghost use Rattle.descriptors.specs.Sound.{IsSoundDatabase, IsSoundIn};
 ghost use Rattle.zone_compile.specs.Configuration.{HasForm, NamesTexts};
-ghost use Rattle.placement.specs.Fitting.{Names};
 ghost use Rattle.zone_report.specs.Ranges.{partitions, place_of, range_at};
 
 use descriptors::{Database, Table};

@@ -1,6 +1,5 @@
-use Rattle.std.proofs.Common.{All, IsUtf8, [], sym, subst}
+use Rattle.std.proofs.Common.{All, IsUtf8, sym, subst}
 use Rattle.std.proofs.lemmas.List.Elements.{All-nil}
-use Rattle.region_sql.specs.declared.region_statements.Item.{Item}
 use Rattle.descriptors.specs.Columns.{columns_of}
 use Rattle.descriptors.proofs.tests.wide_items.Goals as goal
 

@@ -1,4 +1,4 @@
-use Rattle.placement.proofs.Tested.{found_step}
+use Rattle.placement.proofs.TestedNodes.{found_step}
 use Rattle.placement.proofs.fitting.found.Goals as goal
 
 pub loop-id-preserved : goal.loop-id-preserved

@@ -1,5 +1,5 @@
 use Rattle.std.proofs.Common.{◌∙◌, sym}
-use Rattle.placement.proofs.Tested.{serving, serving_back}
+use Rattle.placement.proofs.TestedNodes.{serving, serving_back}
 use Rattle.placement.proofs.fitting.serve_for.Goals as goal
 
 pub returns : goal.returns

@@ -1,5 +1,9 @@
-use Rattle.std.proofs.Common.{ℕ, List, inr, map}
+use Rattle.std.proofs.Common.{◌∙◌, sym, true≢false, inl, inr}
+use Rattle.zone_compile.proofs.Formed.{form_with}
 use Rattle.zone_compile.proofs.forming.is_form.Goals as goal
 
-pub returns : goal.returns
-returns c = λ yes. inr (inr (c.in-Some-goal.goal, map (λ (k : List ℕ × ℕ). k.0) c.args.c.now.constraints, c.in-Some.home, c.args.c.now.global_reads, c.is_spread_over.ensures.home yes, c.is_spread_over.ensures.config yes))
+pub returns-clause-recognised : goal.returns-clause-recognised
+returns-clause-recognised c = λ form. elim (form_with c.args.c.now c.in-Some.home c.in-Some-goal.goal c.in-Some.is c.in-Some-goal.is form) [
+  | inl kept ↦ absurd (true≢false (sym (c.is_kept_at.ensures.1 kept) ∙ c.if-is_kept_at.false))
+  | inr spread ↦ c.is_spread_over.ensures.1 spread
+]

@@ -1,28 +1,23 @@
-use Rattle.std.proofs.Common.{◌≡◌, ◌∙◌, ◌+◌, ◌-◌, ℕ, List, Some, map, ap, subst, sym, arith}
-use Rattle.std.specs.Prelude.{max}
+use Rattle.std.proofs.Common.{◌≡◌, ◌∙◌, ◌+◌, ◌-◌, Some, IsTrue, ap, subst, sym}
+use Rattle.std.specs.Prelude.{◌↔◌, max}
+use Rattle.region_sql.specs.declared.region_statements.Goal.{Goal}
 use Rattle.region_sql.specs.declared.region_statements.Goal.TheVariants.{Zone, Region}
-use Rattle.zone_compile.specs.Configuration.{spread_over}
-use Rattle.zone_compile.proofs.Formed.{at_home_of, spread_is}
+use Rattle.zone_compile.specs.Configuration.{IsAtHome, spread_over}
+use Rattle.zone_compile.proofs.Formed.{regions_in, spread_exactly}
 use Rattle.zone_compile.proofs.forming.is_spread_over.Goals as goal
 
-pub returns-in-Zone-clause-home : goal.returns-in-Zone-clause-home
-returns-in-Zone-clause-home c = λ yes.
-    at_home_of c.args.goal c.as_slice.result.now c.args.c.now.constraints c.args.home.now c.as_slice.ensures
-    (c.are_regions.ensures.texts c.if-not-are_regions.false) (c.are_regions.ensures.few c.if-not-are_regions.false) (c.are_regions.ensures.distinct c.if-not-are_regions.false) (c.are_regions.ensures.home c.if-not-are_regions.false)
-    (λ g. absurd (let other = sym c.in-Zone.is ∙ g in cc))
+pub returns-in-Zone : goal.returns-in-Zone
+returns-in-Zone c =
+    let config = c.args.c.now in let home = c.args.home.now in
+    let at : IsAtHome c.args.goal (regions_in config.constraints) home = subst (λ l. IsAtHome c.args.goal (regions_in l) home) c.as_slice.ensures (c.is_at_home.ensures.0 c.if-not-is_at_home.false) in
+    subst (λ (g : Goal). IsTrue c.has_numbers.result ↔ (IsAtHome g (regions_in config.constraints) home × (config ≡ spread_over g (regions_in config.constraints) home config.global_reads))) (sym c.in-Zone.is)
+    (spread_exactly Zone config home _ c.has_numbers.result (ap (λ n. 3 + n) (c.saturating_sub-others.ensures ∙ ap (λ n. n - 1) c.len.ensures)) c.requires.lease (c.requires.goal ∙ ap (λ g. Some g) c.in-Zone.is)
+    (subst (λ g. IsAtHome g (regions_in config.constraints) home) c.in-Zone.is at) c.has_numbers.ensures)
 
-pub returns-in-Zone-clause-config : goal.returns-in-Zone-clause-config
-returns-in-Zone-clause-config c = λ yes.
-    subst (λ g. c.args.c.now ≡ spread_over g (map (λ (k : List ℕ × ℕ). k.0) c.args.c.now.constraints) c.args.home.now c.args.c.now.global_reads) (sym c.in-Zone.is)
-    (spread_is Zone c.args.c.now c.args.home.now (c.has_numbers.ensures.replicas yes ∙ ap (λ n. 3 + n) (c.saturating_sub-others.ensures ∙ ap (λ n. n - 1) c.len.ensures)) (c.has_numbers.ensures.voters yes) (c.has_numbers.ensures.ones yes) (c.has_numbers.ensures.only yes) c.requires.lease (c.requires.goal ∙ ap (λ g. Some g) c.in-Zone.is))
-
-pub returns-else-len-lt3-clause-home : goal.returns-else-len-lt3-clause-home
-returns-else-len-lt3-clause-home c = λ yes.
-    at_home_of c.args.goal c.as_slice.result.now c.args.c.now.constraints c.args.home.now c.as_slice.ensures
-    (c.are_regions.ensures.texts c.if-not-are_regions.false) (c.are_regions.ensures.few c.if-not-are_regions.false) (c.are_regions.ensures.distinct c.if-not-are_regions.false) (c.are_regions.ensures.home c.if-not-are_regions.false)
-    (λ g. omega (arith, c.if-len-lt3.false, c.len-in-Region.ensures))
-
-pub returns-else-len-lt3-clause-config : goal.returns-else-len-lt3-clause-config
-returns-else-len-lt3-clause-config c = λ yes.
-    subst (λ g. c.args.c.now ≡ spread_over g (map (λ (k : List ℕ × ℕ). k.0) c.args.c.now.constraints) c.args.home.now c.args.c.now.global_reads) (sym c.in-Region.is)
-    (spread_is Region c.args.c.now c.args.home.now (c.has_numbers-in-Region.ensures.replicas yes ∙ c.at_least_five.ensures ∙ ap (λ n. max 5 (2 + n)) (c.saturating_sub-others.ensures ∙ ap (λ n. n - 1) c.len.ensures)) (c.has_numbers-in-Region.ensures.voters yes) (c.has_numbers-in-Region.ensures.ones yes) (c.has_numbers-in-Region.ensures.only yes) c.requires.lease (c.requires.goal ∙ ap (λ g. Some g) c.in-Region.is))
+pub returns-in-Region : goal.returns-in-Region
+returns-in-Region c =
+    let config = c.args.c.now in let home = c.args.home.now in
+    let at : IsAtHome c.args.goal (regions_in config.constraints) home = subst (λ l. IsAtHome c.args.goal (regions_in l) home) c.as_slice.ensures (c.is_at_home.ensures.0 c.if-not-is_at_home.false) in
+    subst (λ (g : Goal). IsTrue c.has_numbers-in-Region.result ↔ (IsAtHome g (regions_in config.constraints) home × (config ≡ spread_over g (regions_in config.constraints) home config.global_reads))) (sym c.in-Region.is)
+    (spread_exactly Region config home _ c.has_numbers-in-Region.result (c.at_least_five.ensures ∙ ap (λ n. max 5 (2 + n)) (c.saturating_sub-others.ensures ∙ ap (λ n. n - 1) c.len.ensures)) c.requires.lease (c.requires.goal ∙ ap (λ g. Some g) c.in-Region.is)
+    (subst (λ g. IsAtHome g (regions_in config.constraints) home) c.in-Region.is at) c.has_numbers-in-Region.ensures)

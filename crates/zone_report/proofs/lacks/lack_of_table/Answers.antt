@@ -1,4 +1,4 @@
-use Rattle.std.proofs.Common.{refl, sym, ◌∙◌}
+use Rattle.std.proofs.Common.{refl, sym}
 use Rattle.zone_report.proofs.Placeable.{all_placed, lack_at_place, placed_more}
 use Rattle.zone_report.proofs.lacks.lack_of_table.Goals as goal
 

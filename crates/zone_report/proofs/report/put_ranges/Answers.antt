@@ -1,5 +1,4 @@
-use Rattle.std.proofs.Common.{◌∙◌, ◌++◌, refl, ap, sym, arith}
-use Rattle.zone_report.specs.Report.{lines_from}
+use Rattle.std.proofs.Common.{◌∙◌, ◌++◌, ap, sym, arith}
 use Rattle.zone_report.proofs.Lines.{all_lines, more_lines, no_lines, partitions_few}
 use Rattle.zone_report.proofs.Placeable.{none_lacks, how_many}
 use Rattle.zone_report.proofs.report.put_ranges.Goals as goal

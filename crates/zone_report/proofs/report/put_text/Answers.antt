@@ -1,7 +1,6 @@
-use Rattle.std.proofs.Common.{◌∙◌, ap, sym, subst}
+use Rattle.std.proofs.Common.{sym, subst}
 use Rattle.placement.specs.Fitting.{ServeFor}
 use Rattle.zone_report.proofs.Homes.{serves}
-use Rattle.zone_report.proofs.Lines.{text_written}
 use Rattle.zone_report.proofs.report.put_text.Goals as goal
 
 pub put_placed-requires-clause-nodes : goal.put_placed-requires-clause-nodes

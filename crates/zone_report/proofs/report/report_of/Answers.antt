@@ -1,9 +1,5 @@
-use Rattle.std.proofs.Common.{◌∙◌, Contains, arith, ap, length, refl, subst, sym, take}
-use Rattle.std.specs.List.{flat_map}
-use Rattle.std.proofs.lemmas.List.{take_all}
-use Rattle.descriptors.specs.declared.table.Table.{Table}
+use Rattle.std.proofs.Common.{Contains, arith, subst, sym}
 use Rattle.zone_report.specs.Ranges.{ranges_of_table}
-use Rattle.zone_report.specs.Report.{lines_from}
 use Rattle.zone_report.proofs.Lines.{table_lines, table_numbers}
 use Rattle.zone_report.proofs.Placeable.{table_lacks_none}
 use Rattle.zone_report.proofs.report.report_of.Goals as goal

@@ -1,7 +1,7 @@
 use Rattle.std.proofs.Common.{◌≡◌, ◌∷◌, [], List, ℕ, sym, subst, refl, codes, arith, length, ap}
 use Rattle.descriptors.specs.Sound.{AreDistinct, IsCluster}
 use Rattle.descriptors.proofs.Creations.{distinct_names}
-use Rattle.descriptors.proofs.tests.four_regions.Goals as goal
+use Rattle.descriptors.proofs.tests.codes.four_regions.Goals as goal
 
 pub new-requires : goal.new-requires
 new-requires c =

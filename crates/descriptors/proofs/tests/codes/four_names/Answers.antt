@@ -1,6 +1,6 @@
 use Rattle.std.proofs.Common.{All, IsUtf8, sym, subst}
 use Rattle.std.proofs.lemmas.List.Elements.{All-nil, All-push}
-use Rattle.descriptors.proofs.tests.four_names.Goals as goal
+use Rattle.descriptors.proofs.tests.codes.four_names.Goals as goal
 
 pub returns-clause-utf8 : goal.returns-clause-utf8
 returns-clause-utf8 c =
