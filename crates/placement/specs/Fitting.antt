@@ -46,10 +46,6 @@ pub record Fits (c : ZoneConfig) (nodes : List NodeInfo) (p : Placement) : Type 
   pub first_at_home : IfSome c.lease (λ home. IsSomeAnd (slice_get at 0) (λ s. s.region ≡ home))
   pub survives : SurvivesLosses c.goal nodes p.voters
 
--- Some placement fits.
-abbrev pub HasPlacement : ZoneConfig → List NodeInfo → Type 0
-HasPlacement c nodes = (p : Placement) × Fits c nodes p
-
 -- No placement fits.
 abbrev pub HasNoPlacement : ZoneConfig → List NodeInfo → Type 0
 HasNoPlacement c nodes = (p : Placement) → ¬ Fits c nodes p

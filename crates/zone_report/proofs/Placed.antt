@@ -17,12 +17,12 @@ use Rattle.descriptors.specs.Contents.{Contents}
 use Rattle.descriptors.specs.Refusals.{first_of, refusal_of as catalog_refusal, rows_of}
 use Rattle.descriptors.specs.Sound.{IsSoundCatalog}
 use Rattle.descriptors.proofs.Kept.{sound_after}
-use Rattle.placement.specs.Fitting.{HasNoPlacement, HasPlacement}
-use Rattle.placement.specs.Placing.{lack_at, lack_of, placement_of}
+use Rattle.placement.specs.Fitting.{HasNoPlacement}
+use Rattle.placement.specs.Placing.{lack_at, lack_of}
 use Rattle.placement.proofs.Lacking.{placed_where_one_fits}
 use Rattle.zone_report.specs.declared.refused.SqlRefusal.{SqlRefusal}
 use Rattle.zone_report.specs.declared.refused.SqlRefusal.TheVariants.{State, Unplaceable}
-use Rattle.zone_report.specs.Laws.{HavePlacements, IsFirstUnplaced, IsPlaced, IsRefusedOrPlaced, RangesArePlaced, without_databases}
+use Rattle.zone_report.specs.Laws.{IsFirstUnplaced, IsPlaced, IsRefusedOrPlaced, RangesArePlaced, StandsAsShown, without_databases}
 use Rattle.zone_report.specs.Nodes.{AreNodes, Serve}
 use Rattle.zone_report.specs.Ranges.{Range, ranges}
 use Rattle.zone_report.specs.Refusals.{first_lack, lack_in, of_catalog, unplaceable}
@@ -49,11 +49,11 @@ lacking_at (Some at) (Some lack) home wanted found h = (refl, cc)
 
 -- ---- the placements of ranges
 
-has_placement : (nodes : List NodeInfo) (range : Range) → IsServed nodes range → lack_in nodes range ≡ None → HasPlacement range.config nodes
-has_placement nodes range served h =
+stands : (nodes : List NodeInfo) (range : Range) → IsServed nodes range → lack_in nodes range ≡ None → StandsAsShown nodes range
+stands nodes range served h =
     let c = range.config in
     let law = placed_where_one_fits c nodes served.form served.serve in
-    (placement_of c nodes, law.placed (nothing_lacking c.lease c.goal _ nodes h))
+    law.placed (nothing_lacking c.lease c.goal _ nodes h)
 
 has_none : (nodes : List NodeInfo) (range : Range) (home : List ℕ) (wanted found : ℕ) → IsServed nodes range → lack_in nodes range ≡ Some (Unplaceable home wanted found) → HasNoPlacement range.config nodes × (range.config.lease ≡ Some home)
 has_none nodes range home wanted found served h =
@@ -61,10 +61,10 @@ has_none nodes range home wanted found served h =
     let lacking = lacking_at range.config.lease (lack_of range.config nodes) home wanted found h in
     (law.lacking.0 lacking.0, lacking.1)
 
-have_placements : (nodes : List NodeInfo) (all : List Range) → All (IsServed nodes) all → first_lack nodes all ≡ None → HavePlacements nodes all
-have_placements nodes all served h k other lt =
+all_stand : (nodes : List NodeInfo) (all : List Range) → All (IsServed nodes) all → first_lack nodes all ≡ None → All (StandsAsShown nodes) all
+all_stand nodes all served h k other lt =
     let range = get_or all k other in
-    has_placement nodes range (served k other lt) (lacks_none nodes all range k h lt (get_or_default all k range other lt))
+    stands nodes range (served k other lt) (lacks_none nodes all range k h lt (get_or_default all k range other lt))
 
 first_unplaced : (nodes : List NodeInfo) (all : List Range) (home : List ℕ) (wanted found : ℕ) → All (IsServed nodes) all → first_lack nodes all ≡ Some (Unplaceable home wanted found) → IsFirstUnplaced nodes all home
 first_unplaced nodes [] home wanted found served h = absurd (none-some (Unplaceable home wanted found) h)
@@ -81,13 +81,13 @@ first_unplaced nodes (range ∷ all) home wanted found served h = by (lack_in no
           range = rest.range;
           later = rest.later;
           parts = ap (λ l. range ∷ l) rest.parts;
-          placed = All-cons (λ r. HasPlacement r.config nodes) range rest.before (has_placement nodes range here e) rest.placed;
+          placed = All-cons (StandsAsShown nodes) range rest.before (stands nodes range here e) rest.placed;
           unplaced = rest.unplaced;
           at_home = rest.at_home;
         }
     by (Some lack) e later =
         let none = has_none nodes range home wanted found here (e ∙ ap (λ o. option_or o (first_lack nodes all)) (sym e) ∙ h) in
-        record { before = []; range = range; later = all; parts = refl; placed = All-nil (λ r. HasPlacement r.config nodes); unplaced = none.0; at_home = none.1 }
+        record { before = []; range = range; later = all; parts = refl; placed = All-nil (StandsAsShown nodes); unplaced = none.0; at_home = none.1 }
 
 -- ---- refusals of the catalog
 
@@ -151,7 +151,7 @@ placed_after z s text placed is (Some refusal) e = placed
 placed_after z s text placed is None e =
     let none = no_want_at_all z.contents s (first_lack z.nodes (ranges (after z.contents s))) e in
     let then' = served_after z s text placed is none.accepted in
-    record { catalog = then'.0; nodes = then'.1; placed = have_placements z.nodes (ranges (after z.contents s)) (ranges_served z.nodes (after z.contents s) then'.0 then'.1) none.lacking }
+    record { catalog = then'.0; nodes = then'.1; placed = all_stand z.nodes (ranges (after z.contents s)) (ranges_served z.nodes (after z.contents s) then'.0 then'.1) none.lacking }
 
 refused_for_want : (z : Zoned) (s : RegionStatement) (text home : List ℕ) (wanted found : ℕ) → IsPlaced z → IsStatementText text (Region s) → refusal_of z (Some s) ≡ Some (Unplaceable home wanted found) → IsFirstUnplaced z.nodes (ranges (after z.contents s)) home
 refused_for_want z s text home wanted found placed is e =
