@@ -6,6 +6,7 @@ pub mod Session
 pub mod Story
 pub mod Texts
 pub mod Words
+pub mod ZoneNodes
 pub mod ZoneRun
 pub mod ZoneStory
 pub mod ZonesSession
