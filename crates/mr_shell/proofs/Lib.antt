@@ -14,4 +14,5 @@ pub mod StopLemmas
 pub mod TextLemmas
 pub mod ZoneExact
 pub mod ZoneLines
+pub mod ZoneNodes
 pub mod ZoneStops

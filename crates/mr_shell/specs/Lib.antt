@@ -6,6 +6,7 @@ pub mod Session
 pub mod Story
 pub mod Tasks
 pub mod Texts
+pub mod ZoneNodes
 pub mod ZoneRun
 pub mod ZoneStory
 pub mod ZonesSession

@@ -1,14 +1,16 @@
 //! A scenario that is read for its ranges alone, line by line.
 
-ghost use Rattle.std.specs.Prelude.{◌≡◌, ◌≤◌, ◌⊎◌, ℕ, List, Option, [], ◌∷◌, IfErr, IfOk, OnOk, take};
+ghost use Rattle.std.specs.Prelude.{◌≡◌, ◌≢◌, ◌≤◌, ◌⊎◌, ℕ, List, Option, [], ◌∷◌, ◌++◌, IfErr, IfOk, OnOk, take};
 ghost use Rattle.mr_base.specs.declared.nodes.NodeInfo.{NodeInfo as AnyNode};
 ghost use Rattle.mr_io.specs.Faults.{CountsFault};
 ghost use Rattle.scenario.specs.declared.lines.Line.TheVariants as lines;
+ghost use Rattle.zone_report.specs.Nodes.{AreNodes};
 ghost use Rattle.zone_report.specs.Report.{report_text};
 ghost use Rattle.zone_report.specs.Statements.{CarriesOut};
 ghost use Rattle.mr_shell.specs.Ends.{EndsLines};
 ghost use Rattle.mr_shell.specs.Texts.{Wrote};
-ghost use Rattle.mr_shell.specs.ZoneStory.{answer_text, over};
+ghost use Rattle.mr_shell.specs.ZoneNodes.{AreSeenNodes, MayRunZones};
+ghost use Rattle.mr_shell.specs.ZoneStory.{answer_text};
 ghost use Rattle.mr_shell.specs.ZonesSession.{HasReadZones, HasRunZones, StopsAtZones, WritesPart, zoned_in};
 
 use crate::outcome::End;
@@ -17,7 +19,7 @@ use mr_base::{Bytes, ListOf, Memory, NodeInfo};
 use mr_io::{Sink, write_all};
 use scenario::{Line, LineFault, NoWorld, Scenario};
 use std::alloc::Global;
-use zone_report::{Format, SqlRefusal, Zones, are_nodes};
+use zone_report::{Format, SqlRefusal, Zones};
 
 /// The scenario as it was read so far, its nodes, and the catalog over them once a statement was run.
 #[derive(Drop)]
@@ -32,6 +34,7 @@ pub struct ZonesSession {
 impl ZonesSession {
     /// A scenario of which no line was read yet.
     pub fn new(alloc: Global) -> ZonesSession
+        ensures ready { AreSeenNodes result.scenario result.nodes }
         ensures unread { (start : Option (List ℕ)) → HasRunZones start [] result start }
     {
         ZonesSession {
@@ -45,6 +48,8 @@ impl ZonesSession {
 
     /// Runs the next line, which comes without its end, and writes what it shows.
     fn run_line<K: Sink>(&mut self, line: &[u8], sink: &mut K) -> Result<(), End>
+        requires { AreSeenNodes self.old.scenario self.old.nodes }
+        ensures ready { OnOk result (AreSeenNodes self.new.scenario self.new.nodes) }
         ensures runs { OnOk result ((start : Option (List ℕ)) (before : List (List ℕ)) → HasRunZones start before self.old (K.written sink.old) → HasRunZones start (line.now ∷ before) self.new (K.written sink.new)) }
         ensures stops { IfErr result (λ e. (start : Option (List ℕ)) (before : List (List ℕ)) → HasRunZones start before self.old (K.written sink.old) → StopsAtZones start e line.now before (K.written sink.new)) }
         ensures ends { IfErr result EndsLines }
@@ -69,6 +74,8 @@ impl ZonesSession {
 
     /// Runs a line that was read. No line comes from `begin` on, since each has the fault S6.
     fn run<K: Sink>(&mut self, line: Line, sink: &mut K) -> Result<(), End>
+        requires { MayRunZones self.old.scenario self.old.nodes line }
+        ensures ready { OnOk result (AreSeenNodes self.new.scenario self.new.nodes) }
         ensures runs { OnOk result ((start : Option (List ℕ)) (text : List ℕ) (before : List (List ℕ)) → HasReadZones start line text before self.old (K.written sink.old) → HasRunZones start (text ∷ before) self.new (K.written sink.new)) }
         ensures stops { IfErr result (λ e. (start : Option (List ℕ)) (text : List ℕ) (before : List (List ℕ)) → HasReadZones start line text before self.old (K.written sink.old) → StopsAtZones start e text before (K.written sink.new)) }
         ensures ends { IfErr result EndsLines }
@@ -78,7 +85,7 @@ impl ZonesSession {
         match line {
             Line::Skipped => Ok(()),
             Line::Cluster(_) => Ok(()),
-            Line::Event(_) => Ok(()),
+            Line::Event(_) => unreachable!(),
             Line::Node(info, _) => {
                 self.add(info)?;
                 Ok(())
@@ -89,6 +96,9 @@ impl ZonesSession {
 
     /// Runs a statement.
     fn run_sql<K: Sink>(&mut self, statement: &Bytes, sink: &mut K) -> Result<(), End>
+        requires ready { AreSeenNodes self.old.scenario self.old.nodes }
+        requires some { self.old.nodes ≢ [] }
+        ensures ready { OnOk result (AreSeenNodes self.new.scenario self.new.nodes) }
         ensures runs { OnOk result ((start : Option (List ℕ)) (text : List ℕ) (before : List (List ℕ)) → HasReadZones start (lines.Sql statement.now) text before self.old (K.written sink.old) → HasRunZones start (text ∷ before) self.new (K.written sink.new)) }
         ensures stops { IfErr result (λ e. (start : Option (List ℕ)) (text : List ℕ) (before : List (List ℕ)) → HasReadZones start (lines.Sql statement.now) text before self.old (K.written sink.old) → StopsAtZones start e text before (K.written sink.new)) }
         ensures ends { IfErr result EndsLines }
@@ -106,6 +116,8 @@ impl ZonesSession {
 
     /// Adds a node to the others.
     fn add(&mut self, info: NodeInfo) -> Result<(), Memory>
+        requires { AreSeenNodes self.old.scenario (self.old.nodes ++ info ∷ []) }
+        ensures ready { OnOk result (AreSeenNodes self.new.scenario self.new.nodes) }
         ensures runs { OnOk result ((clock : ℕ) (start : Option (List ℕ)) (text : List ℕ) (before : List (List ℕ)) (written : Option (List ℕ)) → HasReadZones start (lines.Node info clock) text before self.old written → HasRunZones start (text ∷ before) self.new written) }
     {
         self.nodes.push(info)?;
@@ -129,30 +141,20 @@ impl ZonesSession {
     }
 }
 
-/// The nodes of a scenario without databases. The lines of nodes that are read make nodes of a cluster, so
-/// the test fails for want of memory alone.
-fn without_databases(alloc: Global, nodes: &[NodeInfo]) -> Result<Zones, Memory>
-    ensures { IfOk result (λ zones. zones ≡ over nodes.now) }
-{
-    if are_nodes(alloc, nodes)? {
-        return Zones::new(alloc, nodes);
-    }
-    Err(Memory)
-}
-
-/// Carries out a statement, or says why it is refused.
+/// Carries out a statement, or says why it is refused. The catalog is made for the first one.
 fn carry_out(
     alloc: Global,
     nodes: &[NodeInfo],
     zones: &mut Option<Zones>,
     text: &[u8],
 ) -> Result<Option<SqlRefusal>, Memory>
+    requires { AreNodes nodes.now }
     ensures { IfOk result (λ answer. CarriesOut text.now (zoned_in nodes.now zones.old) answer (zoned_in nodes.now zones.new)) }
 {
     match zones {
         Some(held) => held.statement(text),
         None => {
-            let mut made = without_databases(alloc, nodes)?;
+            let mut made = Zones::new(alloc, nodes)?;
             let answer = made.statement(text)?;
             *zones = Some(made);
             Ok(answer)
@@ -196,10 +198,10 @@ fn write_text<K: Sink>(text: &[u8], sink: &mut K) -> End
 }
 
 impl Runner for ZonesSession {
-    ghost use Rattle.std.specs.Prelude.{⊤};
+    ghost use Rattle.mr_shell.specs.ZoneNodes.{AreSeenNodes};
     ghost use Rattle.mr_shell.specs.ZonesSession.{HasRunZones, StopsAtZones};
 
-    ghost is_ready = { λ s. ⊤ };
+    ghost is_ready = { λ s. AreSeenNodes s.scenario s.nodes };
 
     ghost has_run = { λ report lines s written. HasRunZones report.start lines s written };
 

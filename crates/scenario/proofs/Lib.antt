@@ -10,3 +10,4 @@ pub mod PlaceLemmas
 pub mod SoundLines
 pub mod Tells
 pub mod WordLemmas
+pub mod WordTexts

@@ -1,12 +1,15 @@
 -- What holds of the lines that are read follows from the faults that they don't have.
-use Rattle.std.proofs.Common.{◌≡◌, ℕ, ◌+◌, ◌<◌, ◌≤◌, Bool, true, false, not, List, length, get_or, Some, None, refl, subst, arith}
-use Rattle.std.specs.Prelude.{Option, Result, Ok, Err, Contains, ◌||◌, ◌==◌, nat_lt, nat_le, is_none, is_some, if◌then◌else◌, ok_or, unwrap_or}
+use Rattle.std.proofs.Common.{◌≡◌, ℕ, ◌+◌, ◌<◌, ◌≤◌, Bool, true, false, not, List, [], ◌∷◌, length, get_or, Some, None, refl, subst, arith}
+use Rattle.std.specs.Prelude.{Option, Result, Ok, Err, Contains, IsUtf8, ◌&&◌, ◌||◌, ◌==◌, nat_lt, nat_le, is_none, is_some, if◌then◌else◌, ok_or, unwrap_or}
 use Rattle.std.specs.List.{list_any}
 use Rattle.std.proofs.lemmas.Bool.{ltb-false, leb-false, eqb-true, eqb-false}
+use Rattle.std.proofs.lemmas.Bool.Decides.{nat_tests}
+use Rattle.std.proofs.lemmas.List.{length-append}
 use Rattle.std.proofs.lemmas.Map.Views.{Contains-from_any}
 use Rattle.mr_base.specs.declared.ids.MsgId.{MsgId}
 use Rattle.mr_base.specs.declared.ids.NodeId.{NodeId}
 use Rattle.mr_base.specs.declared.ids.RangeId.{RangeId}
+use Rattle.mr_base.specs.declared.nodes.NodeInfo.{NodeInfo}
 use Rattle.mr_base.specs.declared.settings.Settings.{Settings}
 use Rattle.mr_base.specs.declared.settings.Kind.{Kind}
 use Rattle.mr_base.specs.declared.settings.Kind.TheVariants as kinds
@@ -20,11 +23,11 @@ use Rattle.scenario.specs.declared.lines.Line.TheVariants as lines
 use Rattle.scenario.specs.declared.seen.Seen.{Seen}
 use Rattle.scenario.specs.declared.seen_nodes.SeenNode.{SeenNode}
 use Rattle.scenario.specs.Forms.{form_of, line_name}
-use Rattle.scenario.specs.Judgements.{awaits_nothing, begins_wrongly, has_long, is_long, is_long_kind, is_message, is_out_of_order, is_out_of_range, is_range, is_running, is_running_node, is_stopped, is_stopped_node, lacks_replica, meets_wrong_state, misses_message, misses_node, misses_range, names_nothing, repeats_a_name, waits_not}
-use Rattle.scenario.specs.Lines.{Told, after_event, after_form, counted, fault_of, line_of, named_form, read_form, reads, said, unless_fault, is_skipped}
+use Rattle.scenario.specs.Judgements.{awaits_nothing, begins_wrongly, has_long, has_region, is_long, is_long_kind, is_message, is_out_of_order, is_out_of_range, is_range, is_running, is_running_node, is_stopped, is_stopped_node, is_wrong_node, lacks_replica, meets_wrong_state, misses_message, misses_node, misses_range, names_nothing, repeats_a_name, waits_not}
+use Rattle.scenario.specs.Lines.{Told, after_event, after_form, counted, fault_of, line_of, named_form, read_form, reads, said, unless_fault, is_skipped, with_region}
 use Rattle.scenario.specs.NamePlaces.{place_of}
 use Rattle.scenario.specs.SeenNodes.{clock_limit, clocks_pass, find_node, node_passes, passes}
-use Rattle.scenario.specs.Sound.{AreSettings, IsAfter, IsAfterEvent, IsDown, IsLive, IsOpen, IsSoundLine, IsThere, IsTime, LinesAreSound, MayHappen, Runs, StaysBelow}
+use Rattle.scenario.specs.Sound.{AreSettings, IsAfter, IsAfterEvent, IsDown, IsLater, IsLive, IsNextNode, IsOpen, IsSoundLine, IsThere, IsTime, LinesAreSound, MayHappen, Runs, StaysBelow}
 use Rattle.scenario.specs.Words.{first_word, no_id}
 use Rattle.scenario.proofs.FormHeads.{IsOwnEvent, IsOwnForm, own_form_of}
 use Rattle.scenario.proofs.NodeLemmas.{none_passes}
@@ -128,8 +131,8 @@ live_if_named told (Some r) h = is_live_range told.live r h
 
 -- ---- the order of parts
 
-has_begun : (zones_only begun : Bool) → (zones_only || not begun) ≡ false → begun ≡ true
-has_begun zones_only begun h = is_so begun (neither zones_only (not begun) h).1
+has_begun : (zones_only begun : Bool) → (zones_only || not begun) ≡ false → (zones_only ≡ false) × (begun ≡ true)
+has_begun zones_only begun h = let a = neither zones_only (not begun) h in (a.0, is_so begun a.1)
 
 not_empty : (n : ℕ) → (n == 0) ≡ false → 0 < n
 not_empty n h = let other = eqb-false n 0 h in omega (arith, other)
@@ -187,28 +190,58 @@ sound_timeout : (seen : Seen) (told : Told) (place : Option ℕ) (name : List �
 sound_timeout seen told None name e h = absurd cc
 sound_timeout seen told (Some t) name e h = ((found_place seen.names name t e).0, found told.awaited (record { 0 = t }) (is_so _ h))
 
-sound_form : (seen : Seen) (told : Told) (f : Form) → IsOwnForm f → NoFault seen told f → IsSoundLine seen told (line_of seen f)
-unfolding line_of is_out_of_range is_out_of_order begins_wrongly names_nothing meets_wrong_state awaits_nothing
-sound_form seen told (forms.Cluster settings) own fine =
-    let none : seen.counted ≤ 0 = ltb-false 0 seen.counted fine.begins in
-    (omega (arith, none), settings_short settings fine.in_range)
-sound_form seen told (forms.Node info clock) own fine =
-    let order = neither seen.stated seen.begun fine.in_order in
-    let a = neither _ (nat_le clock_limit clock) fine.in_range in
+less_than_16 : (n : ℕ) → (nat_le 16 n && true) ≡ false → n < 16
+less_than_16 n h = grind (arith, nat_tests)
+
+-- a 17th region would be none that was seen
+few_regions : (regions : List (List ℕ)) (region : List ℕ) → (nat_le 16 (length regions) && not (has_region regions region)) ≡ false → length regions ≤ 16 → length (with_region regions region) ≤ 16
+few_regions regions region h few = by (has_region regions region) refl
+  where
+    by : (b : Bool) → has_region regions region ≡ b → length (with_region regions region) ≤ 16
+    by true e = rw e few
+    by false e = rw e (omega (arith, length-append regions (region ∷ []), less_than_16 (length regions) (subst (λ b. (nat_le 16 (length regions) && not b) ≡ false) e h)))
+
+next_node : (seen : Seen) (info : NodeInfo) (clock : ℕ) → IsOwnForm (forms.Node info clock) → is_wrong_node seen info clock ≡ false → (seen.stated || seen.begun) ≡ false → IsNextNode seen info clock
+next_node seen info clock own fine order =
+    let parts = neither seen.stated seen.begun order in
+    let a = neither _ (nat_le clock_limit clock) fine in
     let b = neither _ (clock == 0) a.0 in
     let c = neither _ _ b.0 in
     let d = neither (nat_le 64 (length seen.nodes)) (not (info.id.0 == length seen.nodes + 1)) c.0 in
-    (order.1, eqb-true _ _ (is_so _ d.1), leb-false _ _ d.0, not_empty _ b.1, leb-false _ _ a.1)
-sound_form seen told (forms.Sql text) own fine =
+    record {
+      unstated = parts.0;
+      unbegun = parts.1;
+      next = eqb-true _ _ (is_so _ d.1);
+      many = leb-false _ _ d.0;
+      few = few_regions seen.regions info.region c.1;
+      region = own.0;
+      zone = own.1;
+      started = not_empty _ b.1;
+      below = leb-false _ _ a.1;
+    }
+
+sound_statement : (seen : Seen) (told : Told) (text : List ℕ) → IsUtf8 text → IsLater seen → (length seen.nodes == 0) ≡ false → IsSoundLine seen told (if seen.begun then lines.Event (events.Sql text) else lines.Sql text)
+sound_statement seen told text own later some =
     elim seen.begun as (λ b. seen.begun ≡ b → IsSoundLine seen told (if b then lines.Event (events.Sql text) else lines.Sql text)) [
-      | true ↦ λ e. (e, tt)
-      | false ↦ λ e. (e, not_empty _ fine.in_order)
+      | true ↦ λ e. (later, (e, not_empty _ some), own)
+      | false ↦ λ e. (later, e, not_empty _ some, own)
     ] refl
-sound_form seen told (forms.Txn name gateway kind list) own fine =
-    (has_begun seen.zones_only seen.begun fine.in_order, (refl, runs seen.nodes gateway fine.names fine.state, time_short kind fine.in_range))
-sound_form seen told (forms.Timeout name) own fine =
-    (has_begun seen.zones_only seen.begun fine.in_order, sound_timeout seen told (place_of seen.names name) name refl fine.awaits)
-sound_form seen told (forms.Event e) own fine = sound_event seen told e own fine
+
+is_later : (seen : Seen) → seen.counted < 200000 → (seen.counted == 0) ≡ false → IsLater seen
+is_later seen few some = (not_empty seen.counted some, few)
+
+sound_form : (seen : Seen) (told : Told) (f : Form) → seen.counted < 200000 → IsOwnForm f → NoFault seen told f → IsSoundLine seen told (line_of seen f)
+unfolding line_of is_out_of_range is_out_of_order begins_wrongly names_nothing meets_wrong_state awaits_nothing
+sound_form seen told (forms.Cluster settings) few own fine =
+    let none : seen.counted ≤ 0 = ltb-false 0 seen.counted fine.begins in
+    (omega (arith, none), settings_short settings fine.in_range)
+sound_form seen told (forms.Node info clock) few own fine = (is_later seen few fine.begins, next_node seen info clock own fine.in_range fine.in_order)
+sound_form seen told (forms.Sql text) few own fine = sound_statement seen told text own (is_later seen few fine.begins) fine.in_order
+sound_form seen told (forms.Txn name gateway kind list) few own fine =
+    (is_later seen few fine.begins, has_begun seen.zones_only seen.begun fine.in_order, (refl, runs seen.nodes gateway fine.names fine.state, time_short kind fine.in_range, own.1))
+sound_form seen told (forms.Timeout name) few own fine =
+    (is_later seen few fine.begins, has_begun seen.zones_only seen.begun fine.in_order, sound_timeout seen told (place_of seen.names name) name refl fine.awaits)
+sound_form seen told (forms.Event e) few own fine = let event = sound_event seen told e own fine in (is_later seen few fine.begins, event.0, event.1)
 
 -- ---- what is seen then
 
@@ -229,7 +262,7 @@ after_one_form seen (forms.Sql text) own fresh =
       | true ↦ refl
       | false ↦ refl
     ]
-after_one_form seen (forms.Txn name gateway kind list) own fresh = (name, unplaced _ fresh, refl)
+after_one_form seen (forms.Txn name gateway kind list) own fresh = (name, own.0, unplaced _ fresh, refl)
 after_one_form seen (forms.Timeout name) own fresh = refl
 after_one_form seen (forms.Event e) own fresh = after_one_event seen e own
 
@@ -241,31 +274,31 @@ Concludes seen told l seen' = IsSoundLine seen told l × IsAfter seen l seen'
 concluded : (seen : Seen) (told : Told) (p q : Line × Seen) → (let r : Result (Line × Seen) ℕ = Ok p in r) ≡ Ok q → Concludes seen told p.0 p.1 → Concludes seen told q.0 q.1
 concluded seen told p q e h = let same : p ≡ q = cc in subst (λ (x : Line × Seen). Concludes seen told x.0 x.1) same h
 
-sound_fit : (seen : Seen) (told : Told) (f : Form) (l : Line) (seen' : Seen) → IsOwnForm f → unless_fault seen f (fault_of seen told f) ≡ Ok (l, seen') → Concludes seen told l seen'
-sound_fit seen told f l seen' own h =
+sound_fit : (seen : Seen) (told : Told) (f : Form) (l : Line) (seen' : Seen) → seen.counted < 200000 → IsOwnForm f → unless_fault seen f (fault_of seen told f) ≡ Ok (l, seen') → Concludes seen told l seen'
+sound_fit seen told f l seen' few own h =
     elim (fault_of seen told f) as (λ o. fault_of seen told f ≡ o → unless_fault seen f o ≡ Ok (l, seen') → Concludes seen told l seen') [
       | Some k ↦ λ e r. absurd cc
-      | None ↦ λ e r. let fine = no_fault seen told f e in concluded seen told (line_of seen f, counted (after_form seen f)) (l, seen') r (sound_form seen told f own fine, after_one_form seen f own fine.fresh)
+      | None ↦ λ e r. let fine = no_fault seen told f e in concluded seen told (line_of seen f, counted (after_form seen f)) (l, seen') r (sound_form seen told f few own fine, after_one_form seen f own fine.fresh)
     ] refl h
 
-sound_named : (seen : Seen) (told : Told) (name : LineName) (line : List ℕ) (l : Line) (seen' : Seen) → read_form seen told (ok_or (form_of name line) 2) ≡ Ok (l, seen') → Concludes seen told l seen'
-sound_named seen told name line l seen' h =
+sound_named : (seen : Seen) (told : Told) (name : LineName) (line : List ℕ) (l : Line) (seen' : Seen) → seen.counted < 200000 → read_form seen told (ok_or (form_of name line) 2) ≡ Ok (l, seen') → Concludes seen told l seen'
+sound_named seen told name line l seen' few h =
     elim (form_of name line) as (λ o. form_of name line ≡ o → read_form seen told (ok_or o 2) ≡ Ok (l, seen') → Concludes seen told l seen') [
       | None ↦ λ e r. absurd cc
-      | Some f ↦ λ e r. sound_fit seen told f l seen' (own_form_of name line f e) r
+      | Some f ↦ λ e r. sound_fit seen told f l seen' few (own_form_of name line f e) r
     ] refl h
 
 sound_said : (seen : Seen) (told : Told) (line : List ℕ) (l : Line) (seen' : Seen) → read_form seen told (said seen line) ≡ Ok (l, seen') → Concludes seen told l seen'
 unfolding said
 sound_said seen told line l seen' h =
-    elim (nat_le 200000 seen.counted) as (λ b. read_form seen told (if b then Err 11 else named_form line (line_name (first_word line))) ≡ Ok (l, seen') → Concludes seen told l seen') [
-      | true ↦ λ r. absurd cc
-      | false ↦ λ r.
+    elim (nat_le 200000 seen.counted) as (λ b. nat_le 200000 seen.counted ≡ b → read_form seen told (if b then Err 11 else named_form line (line_name (first_word line))) ≡ Ok (l, seen') → Concludes seen told l seen') [
+      | true ↦ λ e r. absurd cc
+      | false ↦ λ e r.
           elim (line_name (first_word line)) as (λ o. read_form seen told (named_form line o) ≡ Ok (l, seen') → Concludes seen told l seen') [
             | None ↦ λ q. absurd cc
-            | Some name ↦ λ q. sound_named seen told name line l seen' q
+            | Some name ↦ λ q. sound_named seen told name line l seen' (leb-false _ _ e) q
           ] r
-    ] h
+    ] refl h
 
 pub lines_are_sound : LinesAreSound
 unfolding reads

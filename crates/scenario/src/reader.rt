@@ -105,7 +105,9 @@ fn fault_of<W: World>(seen: &Seen, w: &W, form: &Form) -> Option<u8>
 
 /// What holds of a line that is read, and what is seen then. An event names nodes that are there, and that
 /// run or are stopped as it needs them, ranges that are live, messages in flight, transactions that wait;
-/// durations, clocks and numbers of nodes are within their limits.
+/// durations, clocks and numbers of nodes are within their limits. The line of the cluster is the first that
+/// counts; nodes come before statements, at most 64 in at most 16 regions; regions, zones and transactions
+/// have names, and statements and lists are UTF-8.
 pub fn lines_are_sound()
     ensures { LinesAreSound }
 {}

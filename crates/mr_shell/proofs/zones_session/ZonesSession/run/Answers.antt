@@ -12,11 +12,7 @@ pub returns-in-Cluster-clause-runs : goal.returns-in-Cluster-clause-runs
 returns-in-Cluster-clause-runs g c =
     λ start text before h. has_run_quiet start c.args.line text before c.args.self.now (g.K.Sink.written c.args.sink.now) h (rw c.in-Cluster.is (refl, refl))
 
-pub returns-in-Event-clause-runs : goal.returns-in-Event-clause-runs
-returns-in-Event-clause-runs g c =
-    λ start text before h. has_run_quiet start c.args.line text before c.args.self.now (g.K.Sink.written c.args.sink.now) h (rw c.in-Event.is (refl, refl))
-
-pub returns-in-Node-clause-runs : goal.returns-in-Node-clause-runs
-returns-in-Node-clause-runs g c =
+pub returns-in_ok-add-in-Node-clause-runs : goal.returns-in_ok-add-in-Node-clause-runs
+returns-in_ok-add-in-Node-clause-runs g c =
     λ start text before h.
     c.in_ok-add-in-Node.ensures.runs c.in-Node.field-1 start text before (g.K.Sink.written c.args.sink.now) (subst (λ (l : Line). HasReadZones start l text before c.args.self.now (g.K.Sink.written c.args.sink.now)) c.in-Node.is h)

@@ -1,7 +1,13 @@
+use Rattle.std.proofs.Common.{subst, sym}
 use Rattle.std.proofs.lemmas.Result.{on_ok_weaker}
+use Rattle.zone_report.specs.Nodes.{AreNodes}
 use Rattle.mr_shell.proofs.StopLemmas.{IfErr-both}
 use Rattle.mr_shell.proofs.ZoneLines.{carried, has_run_sql, stops_at_sql}
+use Rattle.mr_shell.proofs.ZoneNodes.{are_nodes}
 use Rattle.mr_shell.proofs.zones_session.ZonesSession.run_sql.Goals as goal
+
+pub carry_out-requires : goal.carry_out-requires
+carry_out-requires g c = subst AreNodes (sym c.as_slice.ensures) (are_nodes c.args.self.now.scenario c.args.self.now.nodes c.requires.ready c.requires.some)
 
 pub returns-clause-runs : goal.returns-clause-runs
 returns-clause-runs g c =

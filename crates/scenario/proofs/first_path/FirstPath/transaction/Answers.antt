@@ -1,4 +1,4 @@
-use Rattle.std.proofs.Common.{ℕ, List, refl, ap, ◌∙◌, subst}
+use Rattle.std.proofs.Common.{ℕ, List, refl, ap, subst}
 use Rattle.std.specs.Prelude.{Contains}
 use Rattle.scenario.specs.FirstSeen.{Seen}
 use Rattle.scenario.proofs.NoLine.{no_transaction, used, not_taken}
