@@ -15,4 +15,5 @@ pub mod TextLemmas
 pub mod ZoneExact
 pub mod ZoneLines
 pub mod ZoneNodes
+pub mod ZonePlaces
 pub mod ZoneStops

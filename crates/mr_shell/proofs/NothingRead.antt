@@ -1,5 +1,5 @@
 -- What is shown where nothing was read.
-use Rattle.std.proofs.Common.{◌≡◌, ◌≤◌, ℕ, List, [], Option, Some, None, inl, refl, sym, ap, append-nil, arith, length}
+use Rattle.std.proofs.Common.{◌≡◌, ℕ, List, [], Option, Some, None, inl, refl, sym, ap, append-nil, arith}
 use Rattle.std.specs.Io.KnownBytes.{append_known, prepend_known}
 use Rattle.scenario.specs.FirstPath.{the_standard_settings}
 use Rattle.scenario.specs.declared.lines.Mode.{Mode}

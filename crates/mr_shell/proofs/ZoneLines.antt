@@ -8,7 +8,8 @@ use Rattle.zone_report.specs.Statements.{CarriesOut, Zoned, next}
 use Rattle.zone_report.specs.declared.refused.SqlRefusal.{SqlRefusal}
 use Rattle.mr_shell.specs.Ends.{EndsLines}
 use Rattle.mr_shell.specs.Texts.{Wrote}
-use Rattle.mr_shell.specs.ZoneStory.{Does, TellsZones, ZoneStory, answer_text, over}
+use Rattle.mr_shell.specs.ZoneStory.{Does, TellsZones, ZoneStory, answer_text}
+use Rattle.zone_report.specs.Laws.{without_databases}
 use Rattle.mr_shell.specs.ZonesSession.{HasReadZones, HasRunZones, StopsAtZones, WritesPart, zoned_in}
 use Rattle.mr_shell.specs.declared.outcome.End.{End}
 use Rattle.mr_shell.specs.declared.outcome.End.TheVariants as ends
@@ -29,12 +30,12 @@ has_run_quiet start line text before session written h does =
 pub has_run_node : (start : Option (List ℕ)) (info : NodeInfo) (clock : ℕ) (text : List ℕ) (before : List (List ℕ)) (session : ZonesSession) (written : Option (List ℕ)) (nodes : List NodeInfo) → nodes ≡ session.nodes ++ info ∷ [] → HasReadZones start (lines.Node info clock) text before session written → HasRunZones start (text ∷ before) (record session { nodes = nodes; zones = None }) written
 has_run_node start info clock text before session written nodes more h =
     record {
-      story = record { seen = session.scenario; zoned = over (h.story.zoned.nodes ++ info ∷ []); refused = h.story.refused };
+      story = record { seen = session.scenario; zoned = without_databases (h.story.zoned.nodes ++ info ∷ []); refused = h.story.refused };
       tells = (h.story, h.tells, lines.Node info clock, h.read, (refl, refl));
       seen = refl;
       number = h.number ∙ add-one (length before);
       holds = record {
-        zoned = ap (λ (ns : List NodeInfo). over ns) (ap (λ (ns : List NodeInfo). ns ++ info ∷ []) h.holds.nodes ∙ sym more);
+        zoned = ap (λ (ns : List NodeInfo). without_databases ns) (ap (λ (ns : List NodeInfo). ns ++ info ∷ []) h.holds.nodes ∙ sym more);
         nodes = ap (λ (ns : List NodeInfo). ns ++ info ∷ []) h.holds.nodes ∙ sym more;
         text = h.holds.text;
       };

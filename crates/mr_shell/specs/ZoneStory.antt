@@ -1,10 +1,10 @@
-use Rattle.std.specs.Prelude.{◌≡◌, ℕ, List, [], ◌∷◌, ◌++◌, Option, Some, None, Ok, Err, true}
-use Rattle.mr_base.specs.declared.nodes.NodeInfo.{NodeInfo}
+use Rattle.std.specs.Prelude.{◌≡◌, ℕ, All, List, [], ◌∷◌, ◌++◌, Option, Some, None, Ok, Err, true}
 use Rattle.scenario.specs.Lines.{Told, nothing_seen, reads, told_by}
 use Rattle.scenario.specs.declared.lines.Line.{Line}
 use Rattle.scenario.specs.declared.lines.Line.TheVariants as lines
 use Rattle.scenario.specs.declared.seen.Seen.{Seen}
-use Rattle.zone_report.specs.Nodes.{regions_of}
+use Rattle.zone_report.specs.Laws.{StandsAsShown, without_databases}
+use Rattle.zone_report.specs.Ranges.{ranges}
 use Rattle.zone_report.specs.Refusals.{refused_line}
 use Rattle.zone_report.specs.Statements.{CarriesOut, Zoned}
 use Rattle.zone_report.specs.declared.refused.SqlRefusal.{SqlRefusal}
@@ -16,13 +16,9 @@ pub record ZoneStory : Type 0 where
   pub zoned : Zoned
   pub refused : List ℕ
 
--- Nodes without databases.
-abbrev pub over : List NodeInfo → Zoned
-over nodes = record { nodes = nodes; contents = record { regions = regions_of nodes; databases = []; tables = []; current = None } }
-
 -- Nothing was read yet.
 abbrev pub no_zone_story : ZoneStory
-no_zone_story = record { seen = nothing_seen true; zoned = over []; refused = [] }
+no_zone_story = record { seen = nothing_seen true; zoned = without_databases []; refused = [] }
 
 -- No message is in flight, and there is no range yet.
 abbrev pub nothing_told : Told
@@ -36,7 +32,7 @@ answer_text (Some refusal) = refused_line refusal
 -- What a line does. A node joins the others; a statement is carried out on what is there, or refused with a
 -- line that says so; any other line leaves all as it was.
 abbrev pub Does : (old new : ZoneStory) → Line → Type 0
-Does old new (lines.Node info clock) = (new.zoned ≡ over (old.zoned.nodes ++ info ∷ [])) × (new.refused ≡ old.refused)
+Does old new (lines.Node info clock) = (new.zoned ≡ without_databases (old.zoned.nodes ++ info ∷ [])) × (new.refused ≡ old.refused)
 Does old new (lines.Sql text) =
     (answer : Option SqlRefusal) × CarriesOut text old.zoned answer new.zoned × (new.refused ≡ old.refused ++ answer_text answer)
 Does old new _ = (new.zoned ≡ old.zoned) × (new.refused ≡ old.refused)
@@ -52,3 +48,7 @@ TellsZones (text ∷ before) story =
 -- The next line has this fault.
 abbrev pub HasZoneFault : ZoneStory → List ℕ → ℕ → Type 0
 HasZoneFault story text fault = reads story.seen nothing_told text ≡ Err fault
+
+-- Each range stands where the report shows it, and survives each loss that its goal names.
+abbrev pub RangesStand : ZoneStory → Type 0
+RangesStand story = All (StandsAsShown story.zoned.nodes) (ranges story.zoned.contents)

@@ -5,14 +5,15 @@ use Rattle.scenario.specs.declared.lines.Line.{Line}
 use Rattle.zone_report.specs.Statements.{Zoned}
 use Rattle.mr_shell.specs.Texts.{Wrote}
 use Rattle.mr_shell.specs.ZoneRun.{ShowsPartOf}
-use Rattle.mr_shell.specs.ZoneStory.{ZoneStory, TellsZones, HasZoneFault, nothing_told, over}
+use Rattle.mr_shell.specs.ZoneStory.{ZoneStory, TellsZones, HasZoneFault, nothing_told}
+use Rattle.zone_report.specs.Laws.{without_databases}
 use Rattle.mr_shell.specs.declared.outcome.End.{End}
 use Rattle.mr_shell.specs.declared.outcome.End.TheVariants as ends
 use Rattle.mr_shell.specs.declared.zones_session.ZonesSession.{ZonesSession}
 
 -- The nodes with the catalog over them, which is made once it is needed.
 abbrev pub zoned_in : List NodeInfo → Option Zoned → Zoned
-zoned_in nodes None = over nodes
+zoned_in nodes None = without_databases nodes
 zoned_in nodes (Some zoned) = zoned
 
 -- A session holds what a story tells, and the lines of the refused statements were written.

@@ -8,6 +8,7 @@ ghost use Rattle.mr_shell.specs.Story.{Story};
 ghost use Rattle.mr_shell.specs.Texts.{IsTold, Says, Wrote, last_line, report_to, usage_line};
 ghost use Rattle.mr_shell.specs.Tasks.{Ask, task_of};
 ghost use Rattle.mr_shell.specs.declared.tasks.Task.TheVariants.{Run, Zones as ZonesIn};
+ghost use Rattle.mr_shell.specs.ZoneStory.{RangesStand, TellsZones, ZoneStory};
 ghost use Rattle.mr_shell.specs.ZoneRun.{AreFaultlessZones, AreFaultyZones, AreTooLargeZones, ZonesEnd, ZonesEndShort, ZonesHaveEnded};
 ghost use Rattle.zone_report.specs.declared.report.Format.{Format as AnyFormat};
 ghost use Rattle.scenario.specs.declared.lines.Mode.{Mode as AnyMode};
@@ -25,7 +26,7 @@ use mr_io::{Sink, Source, write_all};
 use run_laws::{lawful_is_serial, lawful_is_visible};
 use scenario::{Journal, Mode};
 use std::alloc::Global;
-use zone_report::Format;
+use zone_report::{Format, ranges_are_placed};
 
 /// The line of a usage fault.
 const USAGE: &str =
@@ -74,6 +75,8 @@ pub fn top<S: Source, K: Sink>(
     ensures answered { (lines : List (List ℕ)) (story : Story) → AreRun lines story result.journal → story.run.settings.max_offset < story.run.settings.lease → AreAnswered result.journal }
     // The ranges of a scenario. No entry is made.
     ensures zones_journal { (format : AnyFormat) → Ask words.now (ZonesIn format) → result.journal ≡ [] }
+    // Whatever lines tell: each range stands where the report shows it, and survives each loss that its goal names.
+    ensures zones_stand { (lines : List (List ℕ)) (story : ZoneStory) → TellsZones lines story → RangesStand story }
     // Every line was run: the lines of refused statements were written in their order, and the report of all ranges.
     ensures zones_whole { (format : AnyFormat) → Ask words.now (ZonesIn format) → result.status ≡ 0 → AfterTaking (S.left source.old) (S.left source.new) (λ taken. ZonesEnd format End.Whole taken (S.left source.new) (K.written sink.old) (K.written sink.new)) }
     // A line has a fault, a read failed, or the scenario is too large: the lines of the statements refused before
@@ -96,6 +99,7 @@ pub fn top<S: Source, K: Sink>(
 {
     lawful_is_serial();
     lawful_is_visible();
+    ranges_are_placed();
     let Ok(asked) = task_of(alloc, words) else {
         return out_of_memory(alloc);
     };

@@ -8,6 +8,7 @@ use Rattle.mr_shell.proofs.NothingRead.{nothing_taken, run_short}
 use Rattle.mr_shell.specs.declared.tasks.Task.TheVariants as tasks
 use Rattle.mr_shell.proofs.EndLemmas.{at_fault, at_memory, at_read, at_size, at_whole, at_write}
 use Rattle.mr_shell.proofs.ZoneExact.{zones_finds_fault, zones_finds_size, zones_runs_whole}
+use Rattle.mr_shell.proofs.ZonePlaces.{ranges_stand}
 use Rattle.mr_shell.proofs.ZoneStops.{zones_fault, zones_memory, zones_read, zones_size, zones_whole, zones_write}
 use Rattle.mr_shell.proofs.Exact.{finds_fault, finds_size, runs_whole}
 use Rattle.mr_shell.proofs.top.top.Goals as goal
@@ -228,3 +229,12 @@ returns-in_default-clause-short g c =
       nothing_taken left,
       subst (λ (journal : List JournalEntry). EndsShort [] left (report_to mode start) journal start) (sym c.out_of_memory.ensures.journal) (run_short mode left start),
     )
+
+pub returns-in_default-clause-zones_stand : goal.returns-in_default-clause-zones_stand
+returns-in_default-clause-zones_stand g c lines story tells = ranges_stand c.ranges_are_placed.ensures lines story tells
+
+pub returns-in-None-clause-zones_stand : goal.returns-in-None-clause-zones_stand
+returns-in-None-clause-zones_stand g c lines story tells = ranges_stand c.ranges_are_placed.ensures lines story tells
+
+pub returns-in-Some-clause-zones_stand : goal.returns-in-Some-clause-zones_stand
+returns-in-Some-clause-zones_stand g c lines story tells = ranges_stand c.ranges_are_placed.ensures lines story tells
