@@ -5,8 +5,9 @@ use Rattle.scenario.specs.declared.lines.Line.TheVariants as lines
 use Rattle.scenario.specs.declared.seen.Seen.{Seen}
 use Rattle.zone_report.specs.Nodes.{AreNumbered, regions_of}
 
--- These are the nodes of a scenario that is read for its ranges alone, of which this was seen: at most 64,
--- numbered from 1, in at most 16 regions, whose names are texts. (These numbers are this project's profile.)
+-- These are the nodes of the lines that were read, of a scenario that is read for its ranges alone: at most 64,
+-- numbered from 1, in at most 16 regions, whose names are texts. What the reader keeps of the lines agrees: how
+-- many nodes there are, their regions, and that `begin` wasn't read. (This project's profile.)
 pub record AreSeenNodes (seen : Seen) (nodes : List NodeInfo) : Type 0 where
   pub zones_only : seen.zones_only ≡ true
   pub unbegun : seen.begun ≡ false
@@ -17,8 +18,8 @@ pub record AreSeenNodes (seen : Seen) (nodes : List NodeInfo) : Type 0 where
   pub few : length (regions_of nodes) ≤ 16
   pub names : All (λ s. IsUtf8 s.region) nodes
 
--- What was seen with the line, where these are the nodes of the lines before it: a node joins them, a
--- statement finds one at least, and no event comes.
+-- A line that was read may be run, where these are the nodes of the lines before it: its node joins them, its
+-- statement finds one at least, and no line comes from `begin` on.
 abbrev pub MayRunZones : Seen → List NodeInfo → Line → Type 0
 MayRunZones seen nodes (lines.Node info clock) = AreSeenNodes seen (nodes ++ info ∷ [])
 MayRunZones seen nodes (lines.Sql text) = AreSeenNodes seen nodes × (nodes ≢ [])

@@ -1,4 +1,4 @@
--- What holds of the lines that are read.
+-- What holds of the lines that are read. (The limits are this project's profile.)
 use Rattle.std.specs.Prelude.{◌≡◌, ℕ, ◌<◌, ◌≤◌, ◌+◌, true, false, List, [], ◌∷◌, ◌++◌, length, All, Contains, IsUtf8, Option, Some, None, Ok}
 use Rattle.mr_base.specs.declared.ids.MsgId.{MsgId}
 use Rattle.mr_base.specs.declared.ids.NodeId.{NodeId}
@@ -18,6 +18,7 @@ use Rattle.scenario.specs.SeenNodes.{clock_limit, find_node}
 use Rattle.scenario.specs.Lines.{Told, after_event, counted, reads, with_new_node, with_region}
 use Rattle.scenario.specs.Words.{is_name}
 
+-- Durations are at most an hour, in milliseconds.
 abbrev pub IsDuration : ℕ → Type 0
 IsDuration ms = ms ≤ 3600000
 
@@ -36,6 +37,7 @@ IsPlaceName name = (is_name 45 name ≡ true) × IsUtf8 name
 abbrev pub IsTxnName : List ℕ → Type 0
 IsTxnName name = (is_name 95 name ≡ true) × IsUtf8 name
 
+-- A node is there; it runs; it is stopped.
 abbrev pub IsThere : List SeenNode → NodeId → Type 0
 IsThere nodes n = (node : SeenNode) × (find_node nodes n ≡ Some node)
 
