@@ -1,5 +1,5 @@
 use Rattle.std.proofs.Common.{◌≡◌, ℕ, List, [], ◌∷◌, ◌++◌, inl, inr, refl, arith, ap₂, lt_irrefl}
-use Rattle.mr_base.specs.Spans.{IsKeyBelow, InSpan, IsInside}
+use Rattle.mr_base.specs.Spans.{IsKeyBelow, IsInside}
 use Rattle.mr_base.specs.declared.spans.Span.{Span}
 
 -- no key is below itself

@@ -93,7 +93,8 @@ impl Zones {
     {
         match self.catalog.apply(s) {
             Ok(()) => Ok(None),
-            Err(_) => Err(Memory),
+            Err(CatalogRefusal::Memory) => Err(Memory),
+            Err(_) => unreachable!(),
         }
     }
 
@@ -117,12 +118,14 @@ impl Zones {
     /// A copy of the catalog that a statement changed.
     fn changed(&self, s: &RegionStatement) -> Result<Catalog, Memory>
         requires names { NewNamesAreUtf8 s.now }
+        requires accepted { catalog_refusal self.now.contents s.now ≡ None }
         ensures { IfOk result (λ changed. changed ≡ after self.now.contents s.now) }
     {
         let mut changed = self.catalog.clone_in(self.alloc)?;
         match changed.apply(s) {
             Ok(()) => Ok(changed),
-            Err(_) => Err(Memory),
+            Err(CatalogRefusal::Memory) => Err(Memory),
+            Err(_) => unreachable!(),
         }
     }
 
