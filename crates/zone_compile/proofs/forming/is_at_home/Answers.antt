@@ -1,4 +1,4 @@
-use Rattle.std.proofs.Common.{◌∙◌, sym, true≢false}
+use Rattle.std.proofs.Common.{◌∙◌, arith, sym, true≢false}
 use Rattle.zone_compile.proofs.Formed.{at_home_of, texts_of}
 use Rattle.zone_compile.proofs.forming.is_at_home.Goals as goal
 
@@ -7,6 +7,6 @@ returns-then-not-are_texts c = (λ yes. absurd (true≢false (sym yes)), λ home
 
 pub returns : goal.returns
 returns c = (
-  λ yes. at_home_of c.args.goal c.args.counts.now c.args.home.now (c.are_texts.ensures.0 c.if-not-are_texts.false) c.if-counts-gt16.false (c.are_distinct.ensures.0 c.if-not-are_distinct.false) (c.has_region.ensures.0 yes) (c.are_enough.ensures.0 c.if-not-are_enough.false),
+  λ yes. at_home_of c.args.goal c.args.counts.now c.args.home.now (c.are_texts.ensures.0 c.if-not-are_texts.false) (omega arith) (c.are_distinct.ensures.0 c.if-not-are_distinct.false) (c.has_region.ensures.0 yes) (c.are_enough.ensures.0 c.if-not-are_enough.false),
   λ home. c.has_region.ensures.1 home.at_home,
 )
