@@ -6,7 +6,7 @@ use Rattle.sim_cluster.specs.View.{View}
 use Rattle.std.specs.Io.KnownBytes.{prepend_known}
 use Rattle.mr_shell.specs.Content.{AreAllLines, AreFirstLines, IsCut}
 use Rattle.mr_shell.specs.Story.{Story, Tells, HasFault}
-use Rattle.mr_shell.specs.Texts.{Report, journal_text, last_line, Wrote}
+use Rattle.mr_shell.specs.Texts.{Report, journal_text, last_line, report_to, Wrote}
 use Rattle.mr_shell.specs.declared.outcome.End.{End}
 use Rattle.mr_shell.specs.declared.outcome.End.TheVariants as ends
 
@@ -98,6 +98,11 @@ HasEnded end taken left report journal written = EndsWith end taken left report 
 -- Some bytes were taken of a source, and P holds of them.
 abbrev pub AfterTaking : (old new : Option (List ℕ)) → (List ℕ → Type 0) → Type 0
 AfterTaking old new P = (taken : List ℕ) × (old ≡ prepend_known taken new) × P taken
+
+-- A run with a report of this mode has ended so: what its source held and has left, and what its sink had been
+-- given at the start and has been given now.
+abbrev pub RunEnded : End → Mode → (held left start written : Option (List ℕ)) → List JournalEntry → Type 0
+RunEnded end mode held left start written journal = AfterTaking held left (λ taken. HasEnded end taken left (report_to mode start) journal written)
 
 -- A source holds a scenario that isn't too large, and whose lines have no fault.
 abbrev pub IsFaultless : (known : Option (List ℕ)) → Type 0

@@ -2,7 +2,7 @@ use Rattle.std.specs.Prelude.{◌≡◌, ◌≢◌, ◌⊎◌, ℕ, List, [], �
 use Rattle.zone_report.specs.Report.{report_text}
 use Rattle.zone_report.specs.declared.report.Format.{Format}
 use Rattle.mr_shell.specs.Content.{AreAllLines, AreFirstLines, IsCut}
-use Rattle.mr_shell.specs.Run.{EndsAfter, IsWithinLimit}
+use Rattle.mr_shell.specs.Run.{AfterTaking, EndsAfter, IsWithinLimit}
 use Rattle.mr_shell.specs.Texts.{Wrote, last_line}
 use Rattle.mr_shell.specs.ZoneStory.{ZoneStory, TellsZones, HasZoneFault}
 use Rattle.mr_shell.specs.declared.outcome.End.{End}
@@ -52,6 +52,11 @@ abbrev pub ZonesHaveEnded : Format → End → (taken : List ℕ) → (left star
 ZonesHaveEnded format ends.Memory taken left start written = ZonesEndShort taken left start written
 ZonesHaveEnded format ends.Write taken left start written = ZonesEndUnwritten taken left start written ⊎ ZonesEndUnsaid format taken left start written
 ZonesHaveEnded format end taken left start written = ZonesEnd format end taken left start written
+
+-- The command has ended so: what its source held and has left, and what its sink had been given at the start and
+-- has been given now.
+abbrev pub ZonesEnded : End → Format → (held left start written : Option (List ℕ)) → Type 0
+ZonesEnded end format held left start written = AfterTaking held left (λ taken. ZonesHaveEnded format end taken left start written)
 
 -- A source holds a scenario that isn't too large, and whose lines have no fault for this command.
 abbrev pub AreFaultlessZones : (known : Option (List ℕ)) → Type 0

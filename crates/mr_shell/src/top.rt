@@ -3,13 +3,13 @@
 ghost use Rattle.std.specs.Prelude.{◌≡◌, ◌≢◌, ◌≤◌, ◌<◌, ◌⊎◌, ℕ, List, [], None, take};
 ghost use Rattle.mr_io.specs.Faults.{CountsFault};
 ghost use Rattle.mr_shell.specs.Ends.{IsStatus, EndsPieces, status_of};
-ghost use Rattle.mr_shell.specs.Run.{AfterTaking, AreRun, EndsWith, EndsShort, HasEnded, IsFaultless, IsFaulty, IsTooLarge};
+ghost use Rattle.mr_shell.specs.Run.{AreRun, IsFaultless, IsFaulty, IsTooLarge, RunEnded};
 ghost use Rattle.mr_shell.specs.Story.{Story};
-ghost use Rattle.mr_shell.specs.Texts.{IsTold, Says, Wrote, last_line, report_to, usage_line};
+ghost use Rattle.mr_shell.specs.Texts.{IsTold, Says, Wrote, last_line, usage_line};
 ghost use Rattle.mr_shell.specs.Tasks.{Ask, task_of};
 ghost use Rattle.mr_shell.specs.declared.tasks.Task.TheVariants.{Run, Zones as ZonesIn};
 ghost use Rattle.mr_shell.specs.ZoneStory.{RangesStand, TellsZones, ZoneStory};
-ghost use Rattle.mr_shell.specs.ZoneRun.{AreFaultlessZones, AreFaultyZones, AreTooLargeZones, ZonesEnd, ZonesEndShort, ZonesHaveEnded};
+ghost use Rattle.mr_shell.specs.ZoneRun.{AreFaultlessZones, AreFaultyZones, AreTooLargeZones, ZonesEnded};
 ghost use Rattle.zone_report.specs.declared.report.Format.{Format as AnyFormat};
 ghost use Rattle.scenario.specs.declared.lines.Mode.{Mode as AnyMode};
 ghost use Rattle.mr_shell.specs.declared.outcome.End.{End};
@@ -52,17 +52,17 @@ pub fn top<S: Source, K: Sink>(
     ensures usage_unwritten { task_of words.now ≡ None → result.status ≡ 4 → (count : ℕ) × Wrote (K.written sink.old) (K.written sink.new) (take count usage_line) }
     ensures usage_short { task_of words.now ≡ None → result.status ≡ 5 → K.written sink.new ≡ K.written sink.old }
     // The source was read to its end, every line was run, and the journal's text was written.
-    ensures whole { (mode : AnyMode) → Ask words.now (Run mode) → result.status ≡ 0 → AfterTaking (S.left source.old) (S.left source.new) (λ taken. EndsWith End.Whole taken (S.left source.new) (report_to mode (K.written sink.old)) result.journal (K.written sink.new)) }
+    ensures whole { (mode : AnyMode) → Ask words.now (Run mode) → result.status ≡ 0 → RunEnded End.Whole mode (S.left source.old) (S.left source.new) (K.written sink.old) (K.written sink.new) result.journal }
     // A line has a fault. The lines before it were run, and the journal's text was written and the line's number.
-    ensures faulty { (mode : AnyMode) → Ask words.now (Run mode) → result.status ≡ 1 → (number : ℕ) × AfterTaking (S.left source.old) (S.left source.new) (λ taken. EndsWith (End.Fault 1 number) taken (S.left source.new) (report_to mode (K.written sink.old)) result.journal (K.written sink.new)) }
+    ensures faulty { (mode : AnyMode) → Ask words.now (Run mode) → result.status ≡ 1 → (number : ℕ) × RunEnded (End.Fault 1 number) mode (S.left source.old) (S.left source.new) (K.written sink.old) (K.written sink.new) result.journal }
     // A read failed. All whole lines that were taken were run, and the journal's text was written.
-    ensures unread { (mode : AnyMode) → Ask words.now (Run mode) → result.status ≡ 3 → AfterTaking (S.left source.old) (S.left source.new) (λ taken. EndsWith End.Read taken (S.left source.new) (report_to mode (K.written sink.old)) result.journal (K.written sink.new)) }
+    ensures unread { (mode : AnyMode) → Ask words.now (Run mode) → result.status ≡ 3 → RunEnded End.Read mode (S.left source.old) (S.left source.new) (K.written sink.old) (K.written sink.new) result.journal }
     // A write failed. Only the last line that was run may be shown in part or not at all, and then no more was run.
-    ensures unwritten { (mode : AnyMode) → Ask words.now (Run mode) → result.status ≡ 4 → AfterTaking (S.left source.old) (S.left source.new) (λ taken. HasEnded End.Write taken (S.left source.new) (report_to mode (K.written sink.old)) result.journal (K.written sink.new)) }
+    ensures unwritten { (mode : AnyMode) → Ask words.now (Run mode) → result.status ≡ 4 → RunEnded End.Write mode (S.left source.old) (S.left source.new) (K.written sink.old) (K.written sink.new) result.journal }
     // Memory ran out. The last line that was run may be shown by its first entries only.
-    ensures short { (mode : AnyMode) → Ask words.now (Run mode) → result.status ≡ 5 → AfterTaking (S.left source.old) (S.left source.new) (λ taken. EndsShort taken (S.left source.new) (report_to mode (K.written sink.old)) result.journal (K.written sink.new)) }
+    ensures short { (mode : AnyMode) → Ask words.now (Run mode) → result.status ≡ 5 → RunEnded End.Memory mode (S.left source.old) (S.left source.new) (K.written sink.old) (K.written sink.new) result.journal }
     // One byte more than the largest scenario was taken, and the lines before it were run.
-    ensures too_large { (mode : AnyMode) → Ask words.now (Run mode) → result.status ≡ 7 → AfterTaking (S.left source.old) (S.left source.new) (λ taken. EndsWith End.Size taken (S.left source.new) (report_to mode (K.written sink.old)) result.journal (K.written sink.new)) }
+    ensures too_large { (mode : AnyMode) → Ask words.now (Run mode) → result.status ≡ 7 → RunEnded End.Size mode (S.left source.old) (S.left source.new) (K.written sink.old) (K.written sink.new) result.journal }
     // Where memory is found and no call fails, a scenario is run whole exactly where no line has a fault, ends with
     // a line's fault exactly where one has it, and is too large exactly where one byte more follows lines without.
     ensures runs_whole { (mode : AnyMode) → Ask words.now (Run mode) → IsFaultless (S.left source.old) → ¬ CountsFault (S.faults source.old) (S.faults source.new) S.most_faults → ¬ CountsFault (K.faults sink.old) (K.faults sink.new) K.most_faults → (result.status ≡ 0) ⊎ (result.status ≡ 5) }
@@ -78,16 +78,16 @@ pub fn top<S: Source, K: Sink>(
     // Whatever lines tell: each range stands where the report shows it, and survives each loss that its goal names.
     ensures zones_stand { (lines : List (List ℕ)) (story : ZoneStory) → TellsZones lines story → RangesStand story }
     // Every line was run: the lines of refused statements were written in their order, and the report of all ranges.
-    ensures zones_whole { (format : AnyFormat) → Ask words.now (ZonesIn format) → result.status ≡ 0 → AfterTaking (S.left source.old) (S.left source.new) (λ taken. ZonesEnd format End.Whole taken (S.left source.new) (K.written sink.old) (K.written sink.new)) }
+    ensures zones_whole { (format : AnyFormat) → Ask words.now (ZonesIn format) → result.status ≡ 0 → ZonesEnded End.Whole format (S.left source.old) (S.left source.new) (K.written sink.old) (K.written sink.new) }
     // A line has a fault, a read failed, or the scenario is too large: the lines of the statements refused before
     // were written, and the line that says so, if there is one.
-    ensures zones_faulty { (format : AnyFormat) → Ask words.now (ZonesIn format) → result.status ≡ 1 → (fault number : ℕ) × AfterTaking (S.left source.old) (S.left source.new) (λ taken. ZonesEnd format (End.Fault fault number) taken (S.left source.new) (K.written sink.old) (K.written sink.new)) }
-    ensures zones_unread { (format : AnyFormat) → Ask words.now (ZonesIn format) → result.status ≡ 3 → AfterTaking (S.left source.old) (S.left source.new) (λ taken. ZonesEnd format End.Read taken (S.left source.new) (K.written sink.old) (K.written sink.new)) }
-    ensures zones_too_large { (format : AnyFormat) → Ask words.now (ZonesIn format) → result.status ≡ 7 → AfterTaking (S.left source.old) (S.left source.new) (λ taken. ZonesEnd format End.Size taken (S.left source.new) (K.written sink.old) (K.written sink.new)) }
+    ensures zones_faulty { (format : AnyFormat) → Ask words.now (ZonesIn format) → result.status ≡ 1 → (fault number : ℕ) × ZonesEnded (End.Fault fault number) format (S.left source.old) (S.left source.new) (K.written sink.old) (K.written sink.new) }
+    ensures zones_unread { (format : AnyFormat) → Ask words.now (ZonesIn format) → result.status ≡ 3 → ZonesEnded End.Read format (S.left source.old) (S.left source.new) (K.written sink.old) (K.written sink.new) }
+    ensures zones_too_large { (format : AnyFormat) → Ask words.now (ZonesIn format) → result.status ≡ 7 → ZonesEnded End.Size format (S.left source.old) (S.left source.new) (K.written sink.old) (K.written sink.new) }
     // A write failed: only the last of the lines, or the report, may stand there in part.
-    ensures zones_unwritten { (format : AnyFormat) → Ask words.now (ZonesIn format) → result.status ≡ 4 → AfterTaking (S.left source.old) (S.left source.new) (λ taken. ZonesHaveEnded format End.Write taken (S.left source.new) (K.written sink.old) (K.written sink.new)) }
+    ensures zones_unwritten { (format : AnyFormat) → Ask words.now (ZonesIn format) → result.status ≡ 4 → ZonesEnded End.Write format (S.left source.old) (S.left source.new) (K.written sink.old) (K.written sink.new) }
     // Memory ran out: the lines of the statements refused before were written.
-    ensures zones_short { (format : AnyFormat) → Ask words.now (ZonesIn format) → result.status ≡ 5 → AfterTaking (S.left source.old) (S.left source.new) (λ taken. ZonesEndShort taken (S.left source.new) (K.written sink.old) (K.written sink.new)) }
+    ensures zones_short { (format : AnyFormat) → Ask words.now (ZonesIn format) → result.status ≡ 5 → ZonesEnded End.Memory format (S.left source.old) (S.left source.new) (K.written sink.old) (K.written sink.new) }
     // Where memory is found and no call fails, the command ends so exactly for scenarios without a fault, with one, and
     // beyond the limit.
     ensures zones_runs_whole { (format : AnyFormat) → Ask words.now (ZonesIn format) → AreFaultlessZones (S.left source.old) → ¬ CountsFault (S.faults source.old) (S.faults source.new) S.most_faults → ¬ CountsFault (K.faults sink.old) (K.faults sink.new) K.most_faults → (result.status ≡ 0) ⊎ (result.status ≡ 5) }
@@ -142,8 +142,8 @@ fn usage<K: Sink>(alloc: Global, sink: &mut K) -> Outcome
 fn carry_out<S: Source, K: Sink>(alloc: Global, task: Task, source: &mut S, sink: &mut K) -> Outcome
     ensures statuses { IsStatus result.status }
     ensures no_usage { result.status ≢ 2 }
-    ensures zoned { (format : AnyFormat) → task ≡ ZonesIn format → (result.journal ≡ []) × (end : End) × (result.status ≡ status_of end) × AfterTaking (S.left source.old) (S.left source.new) (λ taken. ZonesHaveEnded format end taken (S.left source.new) (K.written sink.old) (K.written sink.new)) }
-    ensures ran { (mode : AnyMode) → task ≡ Run mode → (end : End) × (result.status ≡ status_of end) × AfterTaking (S.left source.old) (S.left source.new) (λ taken. HasEnded end taken (S.left source.new) (report_to mode (K.written sink.old)) result.journal (K.written sink.new)) }
+    ensures zoned { (format : AnyFormat) → task ≡ ZonesIn format → (result.journal ≡ []) × (end : End) × (result.status ≡ status_of end) × ZonesEnded end format (S.left source.old) (S.left source.new) (K.written sink.old) (K.written sink.new) }
+    ensures ran { (mode : AnyMode) → task ≡ Run mode → (end : End) × (result.status ≡ status_of end) × RunEnded end mode (S.left source.old) (S.left source.new) (K.written sink.old) (K.written sink.new) result.journal }
     ensures read_failed { result.status ≡ 3 → CountsFault (S.faults source.old) (S.faults source.new) S.most_faults }
     ensures write_failed { result.status ≡ 4 → CountsFault (K.faults sink.old) (K.faults sink.new) K.most_faults }
 {
@@ -157,7 +157,7 @@ fn carry_out<S: Source, K: Sink>(alloc: Global, task: Task, source: &mut S, sink
 fn run<S: Source, K: Sink>(alloc: Global, mode: Mode, source: &mut S, sink: &mut K) -> Outcome
     ensures statuses { IsStatus result.status }
     ensures no_usage { result.status ≢ 2 }
-    ensures ended { (end : End) × (result.status ≡ status_of end) × AfterTaking (S.left source.old) (S.left source.new) (λ taken. HasEnded end taken (S.left source.new) (report_to mode (K.written sink.old)) result.journal (K.written sink.new)) }
+    ensures ended { (end : End) × (result.status ≡ status_of end) × RunEnded end mode (S.left source.old) (S.left source.new) (K.written sink.old) (K.written sink.new) result.journal }
     ensures read_failed { result.status ≡ 3 → CountsFault (S.faults source.old) (S.faults source.new) S.most_faults }
     ensures write_failed { result.status ≡ 4 → CountsFault (K.faults sink.old) (K.faults sink.new) K.most_faults }
 {
@@ -177,7 +177,7 @@ fn zones<S: Source, K: Sink>(alloc: Global, format: Format, source: &mut S, sink
     ensures statuses { IsStatus result.status }
     ensures no_usage { result.status ≢ 2 }
     ensures journal { result.journal ≡ [] }
-    ensures ended { (end : End) × (result.status ≡ status_of end) × AfterTaking (S.left source.old) (S.left source.new) (λ taken. ZonesHaveEnded format end taken (S.left source.new) (K.written sink.old) (K.written sink.new)) }
+    ensures ended { (end : End) × (result.status ≡ status_of end) × ZonesEnded end format (S.left source.old) (S.left source.new) (K.written sink.old) (K.written sink.new) }
     ensures read_failed { result.status ≡ 3 → CountsFault (S.faults source.old) (S.faults source.new) S.most_faults }
     ensures write_failed { result.status ≡ 4 → CountsFault (K.faults sink.old) (K.faults sink.new) K.most_faults }
 {
