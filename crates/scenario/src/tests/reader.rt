@@ -208,7 +208,7 @@ const TRANSACTIONS: [(&[u8], u8); 18] = [
     (b"txn t2 n1 now", 2),
     (b"txn t2 n1 now ", 0),
     (b"txn t2 n1 soon x", 2),
-    (b"txn T2 n1 now x", 2),
+    (b"txn tX n1 now x", 2),
     (b"txn t-2 n1 now x", 2),
     (b"txn t_2 n1 now x", 0),
     (b"txn t2 n1 ago 5", 2),
