@@ -5,7 +5,8 @@ pub mod Found
 mod Index
 pub mod Kept
 mod Limits
+pub mod Names
 mod Regions
-mod Samples
 mod SoundTables
 mod Steps
+mod Tokens

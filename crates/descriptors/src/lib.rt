@@ -6,6 +6,7 @@ mod changes;
 mod checks;
 mod columns;
 mod database;
+mod laws;
 mod lists;
 mod made;
 mod refusals;
@@ -15,6 +16,7 @@ mod table;
 
 pub use catalog::Catalog;
 pub use database::Database;
+pub use laws::new_names_are_utf8;
 pub use refusals::CatalogRefusal;
 pub use table::Table;
 

@@ -1,247 +1,257 @@
-//! Statements made of a few words.
+//! Statements with the code that each must get, one after the other.
 
-ghost use Rattle.std.specs.Prelude.{◌≡◌, ◌∷◌, [], All, IfOk, IsUtf8, OnOk};
-ghost use Rattle.descriptors.specs.Columns.{columns_of};
+ghost use Rattle.std.specs.Prelude.{◌≡◌, ◌∷◌, [], IfOk, codes};
 ghost use Rattle.descriptors.specs.Changes.{NewNamesAreUtf8};
 
-mod codes;
-
-use mr_base::{Bytes, ListOf, Memory};
-use region_sql::{ColumnKey, ColumnType, Goal, Item, Locality, RegionStatement};
+use crate::{Catalog, CatalogRefusal, new_names_are_utf8};
+use mr_base::{Bytes, CloneIn, ListOf, Memory, SqlState};
+use region_sql::{RegionStatement, Statement, parse_statement};
 use std::alloc::Global;
+use std::test::Fail;
 
-/// The statements, each with a name and up to two more words.
-#[derive(Clone, Copy)]
-enum Kind {
-    /// CREATE DATABASE, with a primary region and one in REGIONS
-    Database,
-    /// The same with SURVIVE REGION FAILURE
-    Surviving,
-    /// CREATE DATABASE with the second word twice in REGIONS
-    Twice,
-    /// The same with SURVIVE REGION FAILURE
-    SurvivingTwice,
-    Use,
-    Primary,
-    Add,
-    Drop,
-    Zone,
-    Region,
-    Restricted,
-    Default,
-    /// CREATE TABLE with a key column id and a column of the second word
-    Table,
-    /// The same with both columns as keys
-    TwoKeys,
-    /// The same without a key
-    NoKey,
-    /// CREATE TABLE with 16 columns, the first of them the key
-    Sixteen,
-    /// The same with 17
-    Seventeen,
-    Locality,
-}
-
-/// The bytes of a text.
-fn bytes(alloc: Global, s: &str) -> Result<Bytes, Memory>
-    ensures exact { IfOk result (λ b. b ≡ s.now) }
-    ensures utf8 { IfOk result IsUtf8 }
-{
-    Bytes::from_slice(alloc, s.as_bytes())
-}
-
-/// The bytes of a text that isn't empty.
-fn optional(alloc: Global, s: &str) -> Result<Option<Bytes>, Memory> {
-    if s.is_empty() {
-        return Ok(None);
+/// The code of an answer.
+fn code(answer: Result<(), CatalogRefusal>) -> &'static str {
+    match answer {
+        Ok(()) => "ok",
+        Err(CatalogRefusal::State(SqlState::S3D000)) => "3D000",
+        Err(CatalogRefusal::State(SqlState::S42P04)) => "42P04",
+        Err(CatalogRefusal::State(SqlState::S42P07)) => "42P07",
+        Err(CatalogRefusal::State(SqlState::S42P01)) => "42P01",
+        Err(CatalogRefusal::D(1)) => "D1",
+        Err(CatalogRefusal::D(2)) => "D2",
+        Err(CatalogRefusal::D(3)) => "D3",
+        Err(CatalogRefusal::D(4)) => "D4",
+        Err(CatalogRefusal::D(5)) => "D5",
+        Err(CatalogRefusal::D(6)) => "D6",
+        Err(CatalogRefusal::D(7)) => "D7",
+        Err(CatalogRefusal::D(8)) => "D8",
+        Err(CatalogRefusal::D(9)) => "D9",
+        Err(CatalogRefusal::D(11)) => "D11",
+        Err(_) => "other",
     }
-    Ok(Some(bytes(alloc, s)?))
 }
 
-/// The region of the text as often as is said, and never where it is empty.
-fn listed(alloc: Global, s: &str, twice: bool) -> Result<ListOf<Bytes>, Memory> {
-    let mut regions = ListOf::new(alloc);
-    if !s.is_empty() {
-        regions.push(bytes(alloc, s)?)?;
-        if twice {
-            regions.push(bytes(alloc, s)?)?;
+/// Statements in a cluster of the regions east, west, europe and asia, each behind its code.
+static CHANGES: &str = "\
+-- before any database
+3D000 CREATE TABLE t (id INT PRIMARY KEY, id STRING UNIQUE)
+3D000 USE x
+3D000 ALTER TABLE t SET LOCALITY GLOBAL
+-- a database of two regions
+ok CREATE DATABASE d PRIMARY REGION east REGIONS west
+D5 ALTER DATABASE d SURVIVE REGION FAILURE
+D1 ALTER DATABASE d ADD REGION mars
+D2 ALTER DATABASE d ADD REGION west
+D6 ALTER DATABASE d DROP REGION east
+42P04 CREATE DATABASE d
+3D000 ALTER DATABASE x SURVIVE ZONE FAILURE
+42P01 ALTER TABLE u SET LOCALITY GLOBAL
+-- which refusal goes first at CREATE DATABASE
+42P04 CREATE DATABASE d PRIMARY REGION mars
+42P04 CREATE DATABASE d PRIMARY REGION east REGIONS west, west
+42P04 CREATE DATABASE d PRIMARY REGION east REGIONS west SURVIVE REGION FAILURE
+D1 CREATE DATABASE n PRIMARY REGION mars REGIONS west, west
+D1 CREATE DATABASE n PRIMARY REGION mars REGIONS west SURVIVE REGION FAILURE
+D2 CREATE DATABASE n PRIMARY REGION east REGIONS west, west SURVIVE REGION FAILURE
+D5 CREATE DATABASE n PRIMARY REGION east REGIONS west SURVIVE REGION FAILURE
+-- a database without regions
+ok CREATE DATABASE bare
+D1 ALTER DATABASE bare ADD REGION mars
+D4 ALTER DATABASE bare ADD REGION asia
+D4 ALTER DATABASE bare DROP REGION asia
+D4 ALTER DATABASE bare SURVIVE REGION FAILURE
+D4 ALTER DATABASE bare SURVIVE ZONE FAILURE
+D4 ALTER DATABASE bare PLACEMENT RESTRICTED
+D1 ALTER DATABASE bare SET PRIMARY REGION mars
+D7 CREATE TABLE t (id INT PRIMARY KEY, id STRING UNIQUE) LOCALITY GLOBAL
+ok CREATE TABLE t (id INT PRIMARY KEY, s STRING UNIQUE)
+42P07 CREATE TABLE t (id INT PRIMARY KEY, s STRING UNIQUE) LOCALITY GLOBAL
+42P07 CREATE TABLE t (id INT PRIMARY KEY, id STRING UNIQUE)
+D7 ALTER TABLE t SET LOCALITY GLOBAL
+42P01 ALTER TABLE u SET LOCALITY GLOBAL
+-- it gets a region
+ok ALTER DATABASE bare SET PRIMARY REGION asia
+D3 ALTER DATABASE bare SET PRIMARY REGION mars
+D3 ALTER DATABASE bare DROP REGION europe
+D3 ALTER TABLE t SET LOCALITY REGIONAL BY TABLE IN europe
+42P01 ALTER TABLE u SET LOCALITY REGIONAL BY TABLE IN europe
+42P07 CREATE TABLE t (id INT PRIMARY KEY, s STRING UNIQUE) LOCALITY REGIONAL BY TABLE IN europe
+D3 CREATE TABLE v (id INT PRIMARY KEY, id STRING UNIQUE) LOCALITY REGIONAL BY TABLE IN europe
+D8 CREATE TABLE v (id INT PRIMARY KEY, id STRING UNIQUE)
+D8 CREATE TABLE v (id INT PRIMARY KEY, crdb_region STRING UNIQUE)
+D8 CREATE TABLE v (id INT PRIMARY KEY, s STRING PRIMARY KEY)
+D8 CREATE TABLE v (id INT, s STRING UNIQUE)
+D8 CREATE TABLE v (a INT PRIMARY KEY, b INT, c INT, d INT, e INT, f INT, g INT, h INT, i INT, j INT, k INT, l INT, m INT, n INT, o INT, p INT, q INT)
+ok CREATE TABLE v (a INT PRIMARY KEY, b INT, c INT, d INT, e INT, f INT, g INT, h INT, i INT, j INT, k INT, l INT, m INT, n INT, o INT, p INT)
+ok ALTER TABLE t SET LOCALITY REGIONAL BY TABLE IN asia
+-- restricted, then surviving the loss of a region
+ok USE d
+ok ALTER DATABASE d PLACEMENT RESTRICTED
+D5 ALTER DATABASE d SURVIVE REGION FAILURE
+ok ALTER DATABASE d ADD REGION europe
+D11 ALTER DATABASE d SURVIVE REGION FAILURE
+ok ALTER DATABASE d PLACEMENT DEFAULT
+ok ALTER DATABASE d SURVIVE REGION FAILURE
+D11 ALTER DATABASE d PLACEMENT RESTRICTED
+D5 ALTER DATABASE d DROP REGION east
+ok CREATE TABLE p (id INT PRIMARY KEY, s STRING UNIQUE) LOCALITY REGIONAL BY TABLE IN west
+D5 ALTER DATABASE d DROP REGION west
+ok ALTER DATABASE d ADD REGION asia
+D9 ALTER DATABASE d DROP REGION west
+ok CREATE TABLE q (id INT PRIMARY KEY, s STRING UNIQUE) LOCALITY REGIONAL BY TABLE IN east
+D6 ALTER DATABASE d DROP REGION east
+ok ALTER DATABASE d SET PRIMARY REGION asia
+ok ALTER DATABASE d DROP REGION europe
+";
+
+/// Once there are 16 databases: what is wrong with a new one itself goes behind its name and their number.
+static SIXTEEN_DATABASES: &str = "\
+D8 CREATE DATABASE g
+42P04 CREATE DATABASE d
+D1 CREATE DATABASE g PRIMARY REGION mars
+D2 CREATE DATABASE g PRIMARY REGION east REGIONS west, west
+D5 CREATE DATABASE g PRIMARY REGION east REGIONS west SURVIVE REGION FAILURE
+";
+
+/// Once there are 64 tables: the name goes before their number, and so do regions.
+static SIXTY_FOUR_TABLES: &str = "\
+42P07 CREATE TABLE t0 (id INT PRIMARY KEY)
+42P07 CREATE TABLE p (id INT PRIMARY KEY)
+D3 CREATE TABLE z (id INT PRIMARY KEY) LOCALITY REGIONAL BY TABLE IN europe
+D8 CREATE TABLE z (id INT PRIMARY KEY)
+ok CREATE DATABASE bare_too
+D7 CREATE TABLE z (id INT PRIMARY KEY) LOCALITY GLOBAL
+D8 CREATE TABLE z (id INT PRIMARY KEY)
+";
+
+/// The statement that a text is.
+fn read(alloc: Global, text: &str) -> Result<RegionStatement, Fail>
+    ensures { IfOk result NewNamesAreUtf8 }
+{
+    new_names_are_utf8();
+    match parse_statement(alloc, text.as_bytes()) {
+        Ok(Statement::Region(statement)) => Ok(statement),
+        Ok(_) | Err(_) => Err(Fail::from("no region statement")),
+    }
+}
+
+/// Carries out a statement.
+fn answer(alloc: Global, catalog: &mut Catalog, text: &str) -> Result<&'static str, Fail> {
+    let statement = read(alloc, text)?;
+    Ok(code(catalog.apply(&statement)))
+}
+
+/// The first line whose statement gets another code than it says, if there is one.
+fn first_wrong<'a>(
+    alloc: Global,
+    catalog: &mut Catalog,
+    script: &'a str,
+) -> Result<Option<&'a str>, Fail> {
+    for line in script.lines() {
+        let Some((code, text)) = line.split_once(' ') else {
+            return Ok(Some(line));
+        };
+        if code != "--" && answer(alloc, catalog, text)? != code {
+            return Ok(Some(line));
         }
     }
+    Ok(None)
+}
+
+/// The regions of the cluster.
+fn four_names(alloc: Global) -> Result<ListOf<Bytes>, Memory>
+    ensures { IfOk result (λ l. l ≡ codes "east" ∷ codes "west" ∷ codes "europe" ∷ codes "asia" ∷ []) }
+{
+    let mut regions = ListOf::new(alloc);
+    regions.push(Bytes::from_slice(alloc, b"east")?)?;
+    regions.push(Bytes::from_slice(alloc, b"west")?)?;
+    regions.push(Bytes::from_slice(alloc, b"europe")?)?;
+    regions.push(Bytes::from_slice(alloc, b"asia")?)?;
     Ok(regions)
 }
 
-/// No locality, GLOBAL for a star, or a region.
-fn locality(alloc: Global, s: &str) -> Result<Option<Locality>, Memory> {
-    if s.is_empty() {
-        return Ok(None);
+/// A catalog over four regions.
+fn four_regions(alloc: Global) -> Result<Catalog, Memory> {
+    let regions = four_names(alloc)?;
+    Catalog::new(alloc, regions.as_slice())
+}
+
+/// Makes databases f0, f1 and so on, and says how many there are when there may be no more.
+fn fill_with_databases(alloc: Global, catalog: &mut Catalog) -> Result<u32, Fail> {
+    for made in 0..100 {
+        let text = format!(in alloc; "CREATE DATABASE f{made}")?;
+        if answer(alloc, catalog, &text)? == "D8" {
+            return Ok(made);
+        }
     }
-    if s == "*" {
-        return Ok(Some(Locality::Global));
+    Ok(100)
+}
+
+/// The same with tables of the current database.
+fn fill_with_tables(alloc: Global, catalog: &mut Catalog) -> Result<u32, Fail> {
+    for made in 0..100 {
+        let text = format!(in alloc; "CREATE TABLE t{made} (id INT PRIMARY KEY)")?;
+        if answer(alloc, catalog, &text)? == "D8" {
+            return Ok(made);
+        }
     }
-    let region = bytes(alloc, s)?;
-    Ok(Some(Locality::InRegion { region }))
+    Ok(100)
 }
 
-fn create_database(
-    alloc: Global,
-    words: (&str, &str, &str),
-    twice: bool,
-    goal: Option<Goal>,
-) -> Result<RegionStatement, Memory>
-    ensures { IfOk result NewNamesAreUtf8 }
-{
-    let name = bytes(alloc, words.0)?;
-    let primary = optional(alloc, words.1)?;
-    let regions = listed(alloc, words.2, twice)?;
-    Ok(RegionStatement::CreateDatabase {
-        name,
-        primary,
-        regions,
-        goal,
-    })
+/// The same with a copy of a catalog.
+fn fill_a_copy(alloc: Global, catalog: &Catalog) -> Result<u32, Fail> {
+    let mut copy = catalog.clone_in(alloc)?;
+    fill_with_tables(alloc, &mut copy)
 }
 
-fn two_columns(
-    alloc: Global,
-    id: Bytes,
-    first: ColumnKey,
-    other: Bytes,
-    second: ColumnKey,
-) -> Result<ListOf<Item>, Memory>
-    ensures { IfOk result (λ items. columns_of items ≡ (id, ColumnType.Int) ∷ (other, ColumnType.String) ∷ []) }
-{
-    let mut items = ListOf::new(alloc);
-    items.push(Item::Column {
-        name: id,
-        ty: ColumnType::Int,
-        not_null: false,
-        key: first,
-    })?;
-    items.push(Item::Column {
-        name: other,
-        ty: ColumnType::String,
-        not_null: false,
-        key: second,
-    })?;
-    Ok(items)
+/// Whether one more table would be taken.
+fn takes_a_table(alloc: Global, catalog: &Catalog) -> Result<bool, Fail> {
+    let table = read(alloc, "CREATE TABLE z (id INT PRIMARY KEY)")?;
+    Ok(catalog.refusal(&table)?.is_none())
 }
 
-fn create_table(
-    alloc: Global,
-    words: (&str, &str, &str),
-    first: ColumnKey,
-    second: ColumnKey,
-) -> Result<RegionStatement, Memory>
-    ensures { IfOk result NewNamesAreUtf8 }
-{
-    let locality = locality(alloc, words.1)?;
-    let id = bytes(alloc, "id")?;
-    let other = bytes(alloc, words.2)?;
-    let items = two_columns(alloc, id, first, other, second)?;
-    let name = bytes(alloc, words.0)?;
-    Ok(RegionStatement::CreateTable {
-        name,
-        items,
-        locality,
-    })
-}
-
-/// Names of columns.
-static WORDS: [&str; 17] = [
-    "a", "b", "c", "d", "e", "f", "g", "h", "i", "j", "k", "l", "m", "n", "o", "p", "q",
-];
-
-/// An INT column for each of these names, the first of them the key.
-fn wide_items(alloc: Global, names: &[&str]) -> Result<ListOf<Item>, Memory>
-    ensures { IfOk result (λ items. All (λ c. IsUtf8 c.0) (columns_of items)) }
-{
-    let mut items = ListOf::new(alloc);
-    for name in names {
-        let key = if items.is_empty() {
-            ColumnKey::Primary
-        } else {
-            ColumnKey::Plain
-        };
-        let name = bytes(alloc, name)?;
-        add_column(&mut items, name, key)?;
+/// A catalog after all changes.
+fn changed(alloc: Global) -> Result<Catalog, Fail> {
+    let mut catalog = four_regions(alloc)?;
+    match first_wrong(alloc, &mut catalog, CHANGES)? {
+        None => Ok(catalog),
+        Some(line) => Err(Fail::from(line)),
     }
-    Ok(items)
 }
 
-fn add_column(items: &mut ListOf<Item>, name: Bytes, key: ColumnKey) -> Result<(), Memory>
-    requires name { IsUtf8 name }
-    requires before { All (λ c. IsUtf8 c.0) (columns_of items.old) }
-    ensures { OnOk result (All (λ c. IsUtf8 c.0) (columns_of items.new)) }
-{
-    items.push(Item::Column {
-        name,
-        ty: ColumnType::Int,
-        not_null: false,
-        key,
-    })?;
+#[test]
+fn each_statement_gets_its_code(rt: HostRuntime) -> Result<(), Fail> {
+    let catalog = changed(rt.alloc())?;
+    assert!(rt; catalog.table(b"q").is_some());
+    assert!(rt; catalog.table(b"v").is_none());
+    assert!(rt; catalog.database(b"d").is_some());
+    assert_eq!(rt; catalog.tables().len(), 4);
     Ok(())
 }
 
-fn wide_table(alloc: Global, name: &str, columns: &[&str]) -> Result<RegionStatement, Memory>
-    ensures { IfOk result NewNamesAreUtf8 }
-{
-    let items = wide_items(alloc, columns)?;
-    let name = bytes(alloc, name)?;
-    Ok(RegionStatement::CreateTable {
-        name,
-        items,
-        locality: None,
-    })
+#[test]
+fn databases_are_16(rt: HostRuntime) -> Result<(), Fail> {
+    let alloc = rt.alloc();
+    let mut catalog = changed(alloc)?;
+    assert_eq!(rt; fill_with_databases(alloc, &mut catalog)?, 14);
+    assert!(rt; first_wrong(alloc, &mut catalog, SIXTEEN_DATABASES)?.is_none());
+    Ok(())
 }
 
-fn statement(
-    alloc: Global,
-    kind: Kind,
-    words: (&str, &str, &str),
-) -> Result<RegionStatement, Memory>
-    ensures { IfOk result NewNamesAreUtf8 }
-{
-    let database = bytes(alloc, words.0)?;
-    let region = bytes(alloc, words.1)?;
-    match kind {
-        Kind::Database => create_database(alloc, words, false, None),
-        Kind::Surviving => create_database(alloc, words, false, Some(Goal::Region)),
-        Kind::Twice => create_database(alloc, words, true, None),
-        Kind::SurvivingTwice => create_database(alloc, words, true, Some(Goal::Region)),
-        Kind::Use => Ok(RegionStatement::Use { name: database }),
-        Kind::Primary => Ok(RegionStatement::SetPrimary { database, region }),
-        Kind::Add => Ok(RegionStatement::AddRegion { database, region }),
-        Kind::Drop => Ok(RegionStatement::DropRegion { database, region }),
-        Kind::Zone => Ok(RegionStatement::Survive {
-            database,
-            goal: Goal::Zone,
-        }),
-        Kind::Region => Ok(RegionStatement::Survive {
-            database,
-            goal: Goal::Region,
-        }),
-        Kind::Restricted => Ok(RegionStatement::Placement {
-            database,
-            restricted: true,
-        }),
-        Kind::Default => Ok(RegionStatement::Placement {
-            database,
-            restricted: false,
-        }),
-        Kind::Table => create_table(alloc, words, ColumnKey::Primary, ColumnKey::Unique),
-        Kind::TwoKeys => create_table(alloc, words, ColumnKey::Primary, ColumnKey::Primary),
-        Kind::NoKey => create_table(alloc, words, ColumnKey::Plain, ColumnKey::Unique),
-        Kind::Sixteen => wide_table(alloc, words.0, &WORDS[..16]),
-        Kind::Seventeen => wide_table(alloc, words.0, &WORDS),
-        Kind::Locality => {
-            let locality = match locality(alloc, words.1)? {
-                Some(locality) => locality,
-                None => Locality::ByRow,
-            };
-            Ok(RegionStatement::SetLocality {
-                table: database,
-                locality,
-            })
-        }
-    }
+#[test]
+fn tables_are_64(rt: HostRuntime) -> Result<(), Fail> {
+    let alloc = rt.alloc();
+    let mut catalog = changed(alloc)?;
+    assert_eq!(rt; fill_with_tables(alloc, &mut catalog)?, 60);
+    assert!(rt; first_wrong(alloc, &mut catalog, SIXTY_FOUR_TABLES)?.is_none());
+    Ok(())
+}
+
+#[test]
+fn a_copy_is_changed_alone(rt: HostRuntime) -> Result<(), Fail> {
+    let catalog = changed(rt.alloc())?;
+    let made = fill_a_copy(rt.alloc(), &catalog)?;
+    assert_eq!(rt; made, 60);
+    assert!(rt; takes_a_table(rt.alloc(), &catalog)?);
+    Ok(())
 }

@@ -1,8 +1,7 @@
 mod Homes
 mod Lines
-mod Names
 mod Nodes
 mod Placeable
 mod Placed
 mod RangesOf
-mod Tokens
+mod Reads

@@ -17,6 +17,7 @@ use Rattle.descriptors.specs.Contents.{Contents}
 use Rattle.descriptors.specs.Refusals.{first_of, refusal_of as catalog_refusal, rows_of}
 use Rattle.descriptors.specs.Sound.{IsSoundCatalog}
 use Rattle.descriptors.proofs.Kept.{sound_after}
+use Rattle.descriptors.proofs.Names.{names_are_texts}
 use Rattle.placement.specs.Fitting.{HasNoPlacement}
 use Rattle.placement.specs.Placing.{lack_at, lack_of}
 use Rattle.placement.proofs.Lacking.{placed_where_one_fits}
@@ -27,7 +28,6 @@ use Rattle.zone_report.specs.Nodes.{AreNodes, Serve}
 use Rattle.zone_report.specs.Ranges.{Range, ranges}
 use Rattle.zone_report.specs.Refusals.{first_lack, lack_in, of_catalog, unplaceable}
 use Rattle.zone_report.specs.Statements.{CarriesOut, Zoned, refusal_of, unless_refused}
-use Rattle.zone_report.proofs.Names.{names_are_texts}
 use Rattle.zone_report.proofs.Nodes.{is_cluster, nodes_serve}
 use Rattle.zone_report.proofs.Placeable.{lacks_none, regions_stay}
 use Rattle.zone_report.proofs.RangesOf.{IsServed, ranges_served}

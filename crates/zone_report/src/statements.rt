@@ -4,6 +4,7 @@ ghost use Rattle.std.specs.Prelude.{IfOk, IfSome};
 ghost use Rattle.descriptors.specs.Changes.{NewNamesAreUtf8};
 ghost use Rattle.zone_report.specs.Statements.{IsRead};
 
+use descriptors::new_names_are_utf8;
 use mr_base::Memory;
 use region_sql::{ParseFault, RegionStatement, Statement, one_meaning, parse_statement};
 use std::alloc::Global;
@@ -14,6 +15,7 @@ pub(crate) fn read(alloc: Global, text: &[u8]) -> Result<Option<RegionStatement>
     ensures names { IfOk result (λ s. IfSome s NewNamesAreUtf8) }
 {
     one_meaning();
+    new_names_are_utf8();
     match parse_statement(alloc, text) {
         Ok(Statement::Region(s)) => Ok(Some(s)),
         Ok(Statement::Row(_)) => Ok(None),

@@ -20,8 +20,7 @@ fn is_event(alloc: Global, head: &[u8], line: &[u8], wanted: Event) -> bool {
 }
 
 #[test]
-fn setups_say(rt: HostRuntime) -> Result<(), Fail> {
-    let alloc = rt.alloc();
+fn clusters_say(rt: HostRuntime) -> Result<(), Fail> {
     let settings = Settings {
         max_offset: 1,
         lease: 6000,
@@ -30,26 +29,35 @@ fn setups_say(rt: HostRuntime) -> Result<(), Fail> {
         expire: 0,
     };
     let line = b"cluster max_offset 1 lag 3 expire 0";
-    assert!(rt; is_read_as(alloc, b"", line, &Line::Cluster(settings)));
-    assert!(rt; is_read_as(alloc, b"", b"cluster", &Line::Cluster(standard_settings())));
+    assert!(rt; is_read_as(rt.alloc(), b"", line, &Line::Cluster(settings)));
+    let standard = Line::Cluster(standard_settings());
+    assert!(rt; is_read_as(rt.alloc(), b"", b"cluster", &standard));
+    Ok(())
+}
+
+#[test]
+fn nodes_say(rt: HostRuntime) -> Result<(), Fail> {
+    let alloc = rt.alloc();
     let node = NodeInfo {
         id: NodeId(3),
         region: Bytes::from_slice(alloc, b"eu-1")?,
         zone: Bytes::from_slice(alloc, b"z")?,
     };
-    assert!(rt;
-        is_read_as(
-            alloc,
-            SETUP,
-            b"node n3 eu-1 z 1234",
-            &Line::Node(node, 1234)
-        )
-    );
-    let text = Bytes::from_slice(alloc, b" USE d ")?;
-    assert!(rt; is_read_as(alloc, SETUP, b"sql  USE d ", &Line::Sql(text)));
-    let text = Bytes::from_slice(alloc, b"USE d")?;
-    assert!(rt; is_event(alloc, RUNNING, b"sql USE d", Event::Sql(text)));
-    assert!(rt; is_event(alloc, SETUP, b"begin", Event::Begin));
+    let wanted = Line::Node(node, 1234);
+    assert!(rt; is_read_as(alloc, SETUP, b"node n3 eu-1 z 1234", &wanted));
+    Ok(())
+}
+
+/// Whether a `sql` line has this statement, before `begin` and behind it.
+fn is_statement(alloc: Global, line: &[u8], statement: &[u8]) -> Result<bool, Memory> {
+    let before = Line::Sql(Bytes::from_slice(alloc, statement)?);
+    let behind = Event::Sql(Bytes::from_slice(alloc, statement)?);
+    Ok(is_read_as(alloc, SETUP, line, &before) && is_event(alloc, RUNNING, line, behind))
+}
+
+#[test]
+fn statements_say(rt: HostRuntime) -> Result<(), Fail> {
+    assert!(rt; is_statement(rt.alloc(), b"sql  USE d ", b" USE d ")?);
     Ok(())
 }
 
@@ -64,97 +72,111 @@ fn is_txn(alloc: Global, line: &[u8], kind: Kind, list: &[u8]) -> Result<bool, M
     Ok(is_event(alloc, RUNNING, line, wanted))
 }
 
+const WITHIN: Kind = Kind::Within { ms: 5, any: false };
+
+const WITHIN_ANY: Kind = Kind::Within { ms: 5, any: true };
+
+const TRANSACTIONS: [(&[u8], Kind, &[u8]); 6] = [
+    (b"txn t2 n2 now  x ", Kind::Now, b" x "),
+    (b"txn t2 n2 ago 7 x", Kind::Ago(7), b"x"),
+    (b"txn t2 n2 within 5 x", WITHIN, b"x"),
+    (b"txn t2 n2 within 5 anyx", WITHIN, b"anyx"),
+    (b"txn t2 n2 within 5 any", WITHIN, b"any"),
+    (b"txn t2 n2 within 5 any any x", WITHIN_ANY, b"any x"),
+];
+
 #[test]
 fn transactions_say(rt: HostRuntime) -> Result<(), Fail> {
-    let alloc = rt.alloc();
-    let within = Kind::Within { ms: 5, any: false };
-    let within_any = Kind::Within { ms: 5, any: true };
-    assert!(rt; is_txn(alloc, b"txn t2 n2 now  x ", Kind::Now, b" x ")?);
-    assert!(rt; is_txn(alloc, b"txn t2 n2 ago 7 x", Kind::Ago(7), b"x")?);
-    assert!(rt; is_txn(alloc, b"txn t2 n2 within 5 x", within, b"x")?);
-    assert!(rt; is_txn(alloc, b"txn t2 n2 within 5 anyx", within, b"anyx")?);
-    assert!(rt; is_txn(alloc, b"txn t2 n2 within 5 any", within, b"any")?);
-    assert!(rt; is_txn(alloc, b"txn t2 n2 within 5 any any x", within_any, b"any x")?);
-    let wanted = Event::Timeout { txn: TxnId(0) };
-    assert!(rt; is_event(alloc, RUNNING, b"timeout t1", wanted));
+    for (line, kind, list) in TRANSACTIONS {
+        assert!(rt; is_txn(rt.alloc(), line, kind, list)?);
+    }
     Ok(())
+}
+
+const OF_NODES: [&[u8]; 10] = [
+    b"tick n2 3",
+    b"tick all 3",
+    b"settle 3",
+    b"drain",
+    b"deliver m5",
+    b"drop m5",
+    b"stop n2",
+    b"show node n2",
+    b"show fresh n2",
+    b"show flight",
+];
+
+/// What they say, by their places.
+fn said_of_nodes(place: usize) -> Event {
+    let node = NodeId(2);
+    match place {
+        0 => Event::Tick {
+            node: Some(node),
+            ms: 3,
+        },
+        1 => Event::Tick { node: None, ms: 3 },
+        2 => Event::Settle { ms: 3 },
+        3 => Event::Drain,
+        4 => Event::Deliver { id: MsgId(5) },
+        5 => Event::Drop { id: MsgId(5) },
+        6 => Event::Stop { node },
+        7 => Event::ShowNode { node },
+        8 => Event::ShowFresh { node },
+        _ => Event::ShowFlight,
+    }
 }
 
 #[test]
 fn events_of_nodes_say(rt: HostRuntime) -> Result<(), Fail> {
-    let alloc = rt.alloc();
-    let node = NodeId(2);
-    let one = Event::Tick {
-        node: Some(node),
-        ms: 3,
-    };
-    assert!(rt; is_event(alloc, RUNNING, b"tick n2 3", one));
-    assert!(rt;
-        is_event(
-            alloc,
-            RUNNING,
-            b"tick all 3",
-            Event::Tick { node: None, ms: 3 }
-        )
-    );
-    assert!(rt; is_event(alloc, RUNNING, b"settle 3", Event::Settle { ms: 3 }));
-    assert!(rt; is_event(alloc, RUNNING, b"drain", Event::Drain));
-    assert!(rt;
-        is_event(
-            alloc,
-            RUNNING,
-            b"deliver m5",
-            Event::Deliver { id: MsgId(5) }
-        )
-    );
-    assert!(rt; is_event(alloc, RUNNING, b"drop m5", Event::Drop { id: MsgId(5) }));
-    assert!(rt; is_event(alloc, RUNNING, b"stop n2", Event::Stop { node }));
-    assert!(rt;
-        is_event(
-            alloc,
-            STOPPED,
-            b"start n1",
-            Event::Start { node: NodeId(1) }
-        )
-    );
-    assert!(rt; is_event(alloc, RUNNING, b"show node n2", Event::ShowNode { node }));
-    assert!(rt; is_event(alloc, RUNNING, b"show fresh n2", Event::ShowFresh { node }));
-    assert!(rt; is_event(alloc, RUNNING, b"show flight", Event::ShowFlight));
+    for (place, line) in OF_NODES.iter().enumerate() {
+        assert!(rt; is_event(rt.alloc(), RUNNING, line, said_of_nodes(place)));
+    }
     Ok(())
+}
+
+const OF_RANGES: [&[u8]; 8] = [
+    b"apply n1 r1 9",
+    b"lease acquire r1 n2",
+    b"lease transfer r1 n2",
+    b"lease extend r1",
+    b"close r1",
+    b"close all",
+    b"show range r1",
+    b"timeout t1",
+];
+
+/// What they say, by their places.
+fn said_of_ranges(place: usize) -> Event {
+    let range = RangeId(1);
+    let node = NodeId(2);
+    match place {
+        0 => Event::Apply {
+            node: NodeId(1),
+            range,
+            count: 9,
+        },
+        1 => Event::LeaseAcquire { range, node },
+        2 => Event::LeaseTransfer { range, node },
+        3 => Event::LeaseExtend { range },
+        4 => Event::Close { range: Some(range) },
+        5 => Event::Close { range: None },
+        6 => Event::ShowRange { range },
+        _ => Event::Timeout { txn: TxnId(0) },
+    }
 }
 
 #[test]
 fn events_of_ranges_say(rt: HostRuntime) -> Result<(), Fail> {
-    let alloc = rt.alloc();
-    let range = RangeId(1);
-    let node = NodeId(2);
-    let apply = Event::Apply {
-        node: NodeId(1),
-        range,
-        count: 9,
-    };
-    assert!(rt; is_event(alloc, RUNNING, b"apply n1 r1 9", apply));
-    let acquire = Event::LeaseAcquire { range, node };
-    assert!(rt; is_event(alloc, RUNNING, b"lease acquire r1 n2", acquire));
-    let transfer = Event::LeaseTransfer { range, node };
-    assert!(rt; is_event(alloc, RUNNING, b"lease transfer r1 n2", transfer));
-    assert!(rt;
-        is_event(
-            alloc,
-            RUNNING,
-            b"lease extend r1",
-            Event::LeaseExtend { range }
-        )
-    );
-    assert!(rt;
-        is_event(
-            alloc,
-            RUNNING,
-            b"close r1",
-            Event::Close { range: Some(range) }
-        )
-    );
-    assert!(rt; is_event(alloc, RUNNING, b"close all", Event::Close { range: None }));
-    assert!(rt; is_event(alloc, RUNNING, b"show range r1", Event::ShowRange { range }));
+    for (place, line) in OF_RANGES.iter().enumerate() {
+        assert!(rt; is_event(rt.alloc(), RUNNING, line, said_of_ranges(place)));
+    }
+    Ok(())
+}
+
+#[test]
+fn begin_and_start_say(rt: HostRuntime) -> Result<(), Fail> {
+    let start = Event::Start { node: NodeId(1) };
+    assert!(rt; is_event(rt.alloc(), SETUP, b"begin", Event::Begin));
+    assert!(rt; is_event(rt.alloc(), STOPPED, b"start n1", start));
     Ok(())
 }

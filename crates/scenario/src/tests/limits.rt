@@ -97,53 +97,67 @@ const ONE_TOO_MANY: [&[u8]; 11] = [
     b"timeout t2",
 ];
 
+/// Whether a line that is too long has its fault even so, and a comment none.
+fn are_not_too_many(scenario: &mut Scenario, long: &[u8], comment: &[u8]) -> bool {
+    number_of(scenario.read_line(long, &OneOfEach)) == 10
+        && number_of(scenario.read_line(comment, &OneOfEach)) == 0
+}
+
 #[test]
 fn lines_are_200000(rt: HostRuntime) -> Result<(), Fail> {
     let mut scenario = Scenario::new(rt.alloc(), false);
+    let long = long_line(rt.alloc(), b"drain", 4097)?;
     assert!(rt; fill(&mut scenario));
     assert!(rt; are_too_many(&mut scenario, &ONE_TOO_MANY));
-    let line = long_line(rt.alloc(), b"drain", 4097)?;
-    assert_eq!(rt;
-        number_of(scenario.read_line(line.as_slice(), &OneOfEach)),
-        10
-    );
-    assert_eq!(rt; number_of(scenario.read_line(b"#", &OneOfEach)), 0);
+    assert!(rt; are_not_too_many(&mut scenario, &long, b"#"));
     Ok(())
 }
 
-/// Reads a `cluster` line and nodes, one in each region that a letter names.
-fn read_nodes(alloc: Global, scenario: &mut Scenario, letters: &[u8]) -> Result<bool, Memory> {
+/// How a line is answered behind a `cluster` line and nodes, one in each region that a letter names.
+fn fault_behind_nodes(alloc: Global, letters: &[u8], line: &[u8]) -> Result<u8, Memory> {
+    let mut scenario = Scenario::new(alloc, false);
     let mut fine = number_of(scenario.read_line(b"cluster", &NoWorld)) == 0;
     for (i, letter) in letters.iter().enumerate() {
         let k = i + 1;
         let c = char::from(*letter);
-        let line = format!(in alloc; "node n{k} {c} z 1")?;
-        fine = fine && number_of(scenario.read_line(line.as_bytes(), &NoWorld)) == 0;
+        let node = format!(in alloc; "node n{k} {c} z 1")?;
+        fine = fine && number_of(scenario.read_line(node.as_bytes(), &NoWorld)) == 0;
     }
-    Ok(fine)
+    if !fine {
+        return Ok(99);
+    }
+    Ok(number_of(scenario.read_line(line, &NoWorld)))
 }
 
+static SIXTEEN_REGIONS: &[u8] = b"abcdefghijklmnop";
+
+static SIXTY_THREE_NODES: &[u8] =
+    b"aaaaaaaaaaaaaaaaaaaaaaaaaaaaaaaabbbbbbbbbbbbbbbbbbbbbbbbbbbbbbb";
+
+static SIXTY_FOUR_NODES: &[u8] =
+    b"aaaaaaaaaaaaaaaaaaaaaaaaaaaaaaaabbbbbbbbbbbbbbbbbbbbbbbbbbbbbbbb";
+
 #[test]
-fn nodes_and_regions_have_limits(rt: HostRuntime) -> Result<(), Fail> {
-    let mut scenario = Scenario::new(rt.alloc(), false);
-    assert!(rt; read_nodes(rt.alloc(), &mut scenario, b"abcdefghijklmnop")?);
+fn regions_are_16(rt: HostRuntime) -> Result<(), Fail> {
     assert_eq!(rt;
-        number_of(scenario.read_line(b"node n17 q z 1", &NoWorld)),
+        fault_behind_nodes(rt.alloc(), SIXTEEN_REGIONS, b"node n17 q z 1")?,
         3
     );
     assert_eq!(rt;
-        number_of(scenario.read_line(b"node n17 p z 1", &NoWorld)),
+        fault_behind_nodes(rt.alloc(), SIXTEEN_REGIONS, b"node n17 p z 1")?,
         0
     );
-    let mut scenario = Scenario::new(rt.alloc(), false);
-    let many = b"aaaaaaaaaaaaaaaaaaaaaaaaaaaaaaaabbbbbbbbbbbbbbbbbbbbbbbbbbbbbbb";
-    assert!(rt; read_nodes(rt.alloc(), &mut scenario, many)?);
+    Ok(())
+}
+
+#[test]
+fn nodes_are_64(rt: HostRuntime) -> Result<(), Fail> {
     assert_eq!(rt;
-        number_of(scenario.read_line(b"node n64 c z 1", &NoWorld)),
+        fault_behind_nodes(rt.alloc(), SIXTY_THREE_NODES, b"node n64 c z 1")?,
         0
     );
     assert_eq!(rt;
-        number_of(scenario.read_line(b"node n65 c z 1", &NoWorld)),
+        fault_behind_nodes(rt.alloc(), SIXTY_FOUR_NODES, b"node n65 c z 1")?,
         3
     );
     Ok(())

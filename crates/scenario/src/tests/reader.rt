@@ -376,18 +376,20 @@ fn of_two_faults_the_first(rt: HostRuntime) -> Result<(), Fail> {
     Ok(())
 }
 
+/// Whether the transaction of a name is the second one, and is found by its number too.
+fn is_second(scenario: &Scenario, name: &[u8]) -> bool {
+    match scenario.txn(name) {
+        Some(txn) => txn == TxnId(1) && scenario.name(txn) == name,
+        None => false,
+    }
+}
+
 #[test]
 fn a_refused_line_does_not_count(rt: HostRuntime) -> Result<(), Fail> {
     let mut scenario = Scenario::new(rt.alloc(), false);
-    assert!(rt; read_all(&mut scenario, RUNNING));
-    assert!(rt; !read_all(&mut scenario, b"txn t2 n9 now x"));
-    assert!(rt; scenario.txn(b"t2").is_none());
+    let fine = read_all(&mut scenario, RUNNING) && !read_all(&mut scenario, b"txn t2 n9 now x");
+    assert!(rt; fine && scenario.txn(b"t2").is_none());
     assert!(rt; read_all(&mut scenario, b"txn t2 n1 now x"));
-    assert!(rt; scenario.txn(b"t2").is_some());
-    if let Some(t) = scenario.txn(b"t2") {
-        assert!(rt; t == TxnId(1));
-        assert!(rt; scenario.name(t) == b"t2".as_slice());
-    }
-    assert_eq!(rt; scenario.names().len(), 2);
+    assert!(rt; is_second(&scenario, b"t2") && scenario.names().len() == 2);
     Ok(())
 }

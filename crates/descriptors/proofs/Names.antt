@@ -15,15 +15,12 @@ use Rattle.region_sql.specs.declared.tokens.Sign.TheVariants as sign
 use Rattle.region_sql.specs.declared.tokens.Soft.TheVariants as softs
 use Rattle.region_sql.specs.declared.tokens.Token.{Token}
 use Rattle.region_sql.specs.declared.tokens.Token.TheVariants as token
-use Rattle.region_sql.specs.declared.statements.ParseFault.{ParseFault}
-use Rattle.region_sql.specs.declared.statements.ParseFault.TheVariants as faults
-use Rattle.region_sql.specs.Faults.{IfSyntax}
 use Rattle.region_sql.specs.Tokens.{sign_number}
 use Rattle.region_sql.specs.Forms.{AreListed, Fits, Form, as_value, either}
 use Rattle.region_sql.specs.Grammar.{IsStatementText, alter, alteration, altered_database, altered_table, column, create, item, item_list, made_database, mark, word, name, name_in, new_database, new_table, region_statement, statement, used, ◌▸◌, ◌◂◌}
 use Rattle.descriptors.specs.Changes.{NewNamesAreUtf8}
 use Rattle.descriptors.specs.Columns.{columns_of}
-use Rattle.zone_report.proofs.Tokens.{AreTexts, IsText, texts_back, texts_front, texts_of}
+use Rattle.descriptors.proofs.Tokens.{AreTexts, IsText, texts_back, texts_front, texts_of}
 
 -- Each value of a form whose tokens name texts has P.
 abbrev Gives : {A : Type 0} → Form A → (A → Type 0) → Type 0
@@ -150,12 +147,6 @@ region_text v ts all (inr (inl x)) =
     let back = texts_back x.2 x.3 (subst AreTexts x.5 all) in
     subst NewNamesAreUtf8 (sym x.4) (one_of altered_database altered_table NewNamesAreUtf8 altered_database_text altered_table_text x.1 x.3 back x.7)
 region_text v ts all (inr (inr x)) = subst NewNamesAreUtf8 (sym (x.4 ∙ x.7.1)) tt
-
-pub if_syntax : (f : ParseFault) (at : ℕ) (P : ℕ → Type 0) → f ≡ faults.Syntax at → IfSyntax {A = Statement} (Err f) P → P at
-if_syntax f at P e h = let Q : ParseFault → Type 0 = λ x. IfSyntax {A = Statement} (Err x) P in subst Q e h
-
-pub no_region : (x : Statement) (r : RowStatement) (s : RegionStatement) → x ≡ statements.Row r → x ≡ statements.Region s → ⊥
-no_region x r s h g = cc
 
 pub names_are_texts : (text : List ℕ) (s : RegionStatement) → IsStatementText text (statements.Region s) → NewNamesAreUtf8 s
 unfolding statement
