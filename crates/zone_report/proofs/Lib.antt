@@ -1,7 +1,7 @@
 mod Homes
 mod Lines
 mod Nodes
+mod Parsing
 mod Placeable
 mod Placed
 mod RangesOf
-mod Reads

@@ -2,7 +2,7 @@ use Rattle.std.proofs.Common.{subst}
 use Rattle.region_sql.specs.declared.statements.Statement.{Statement}
 use Rattle.region_sql.specs.declared.statements.Statement.TheVariants.{Region}
 use Rattle.region_sql.specs.Grammar.{IsStatementText}
-use Rattle.zone_report.proofs.Reads.{if_syntax, no_region}
+use Rattle.zone_report.proofs.Parsing.{if_syntax, no_region}
 use Rattle.zone_report.proofs.statements.read.Goals as goal
 
 pub returns-in-Ok-Region-clause-names : goal.returns-in-Ok-Region-clause-names
