@@ -346,3 +346,26 @@ impl CloneIn for Reply {
         }
     }
 }
+
+impl CloneIn for Body {
+    fn clone_in(&self, alloc: Global) -> Result<Body, Memory> {
+        match self {
+            Body::Request(request) => Ok(Body::Request(request.clone_in(alloc)?)),
+            Body::Reply(reply) => Ok(Body::Reply(reply.clone_in(alloc)?)),
+        }
+    }
+}
+
+impl CloneIn for Message {
+    fn clone_in(&self, alloc: Global) -> Result<Message, Memory> {
+        Ok(Message {
+            id: self.id,
+            from: self.from,
+            to: self.to,
+            clock: self.clock,
+            txn: self.txn,
+            boot: self.boot,
+            body: self.body.clone_in(alloc)?,
+        })
+    }
+}

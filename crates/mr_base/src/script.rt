@@ -27,7 +27,7 @@ pub struct Fed {
     pub rows: ListOf<Pair>,
 }
 
-/// A transaction's list of statements at work. What it needs and what it writes are functions of what
+/// A transaction's list of statements at work. What it needs, writes and answers are functions of what
 /// it was made with and of what it was fed since the last restart, and of nothing else. After want of
 /// memory nothing is said of a script, and no further call on it is made.
 pub trait Script: Drop {
@@ -35,7 +35,7 @@ pub trait Script: Drop {
     ghost use Rattle.mr_base.specs.Scripts.{Program, IsDone, AsksFor, IsNearer, fed_with};
     ghost use Rattle.mr_base.specs.declared.script.Fed.{Fed};
 
-    /// What the script was made with, seen as its two functions.
+    /// What the script was made with, seen as its three functions.
     ghost program: { Self → Program };
 
     /// What it was fed since the last restart, first things first.
@@ -79,6 +79,7 @@ pub trait Script: Drop {
 }
 
 /// A script that asks a fixed list of spans, whatever it is fed, and then writes a fixed list.
+/// It has no statements, so it answers none.
 #[derive(Drop)]
 pub struct FixedScript {
     alloc: Global,

@@ -1,8 +1,8 @@
 use Rattle.std.proofs.Common.{List, [], subst, ℕ, ◌<◌}
-use Rattle.run_laws.specs.Answered.{AreAnswered}
-use Rattle.run_laws.specs.Laws.{LawfulIsSerial, LawfulIsVisible}
-use Rattle.run_laws.specs.Serial.{IsSerial}
-use Rattle.run_laws.specs.Visible.{IsVisible}
+use Rattle.one_node_laws.specs.Answered.{AreAnswered}
+use Rattle.one_node_laws.specs.Laws.{LawfulIsSerial, LawfulIsVisible}
+use Rattle.one_node_laws.specs.Serial.{IsSerial}
+use Rattle.one_node_laws.specs.Visible.{IsVisible}
 use Rattle.scenario.specs.declared.entries.JournalEntry.{JournalEntry}
 use Rattle.mr_shell.specs.Run.{AreRun}
 use Rattle.mr_shell.specs.Story.{Story}

@@ -1,7 +1,7 @@
 -- The next line of a scenario has a number of its own, and so has its transaction.
 use Rattle.std.proofs.Common.{◌≡◌, ℕ, ◌+◌, ◌≤◌, List, [], ◌∷◌, ◌++◌, ap, sym, ◌∙◌, subst, length, length-append, add-one, arith}
 use Rattle.mr_base.specs.declared.ids.TxnId.{TxnId}
-use Rattle.run_laws.specs.LinesRun.{AreBefore, AreNotOf, IsNextLine, IsNotOf, LinesRun, NumberedEvent}
+use Rattle.one_node_laws.specs.LinesRun.{AreBefore, AreNotOf, IsNextLine, IsNotOf, LinesRun, NumberedEvent}
 use Rattle.scenario.specs.FirstPath.{Reads}
 use Rattle.scenario.specs.FirstSeen.{Seen}
 use Rattle.scenario.specs.declared.events.Event.{Event}

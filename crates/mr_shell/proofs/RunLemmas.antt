@@ -19,12 +19,12 @@ use Rattle.scenario.specs.declared.lines.Line.TheVariants as lines
 use Rattle.scenario.specs.declared.lines.Mode.{Mode}
 use Rattle.scenario.proofs.MoreNames.{texts-more}
 use Rattle.scenario.proofs.NamesOnly.{NamesOnly-append, NamesOnly-reverse, NamesOnly-weaker}
-use Rattle.sim_cluster.specs.Cluster.{GoesOn, IsOf, IsRunOf}
-use Rattle.sim_cluster.specs.View.{View}
+use Rattle.one_node.specs.Cluster.{GoesOn, IsOf, IsRunOf}
+use Rattle.one_node.specs.View.{View}
 use Rattle.mr_base.specs.declared.settings.Settings.{Settings}
 use Rattle.mr_shell.specs.Run.{RunsLine, ShowsAll, ShowsEntries, ShowsPart}
 use Rattle.mr_shell.specs.Session.{Follows}
-use Rattle.run_laws.specs.LinesRun.{with_line}
+use Rattle.one_node_laws.specs.LinesRun.{with_line}
 use Rattle.mr_shell.specs.Story.{Story, Tells, run_with}
 use Rattle.mr_shell.specs.Texts.{Report, texts, journal_text, Wrote}
 

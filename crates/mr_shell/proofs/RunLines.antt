@@ -10,11 +10,11 @@ use Rattle.scenario.specs.declared.events.Event.{Event}
 use Rattle.scenario.specs.declared.lines.Line.{Line}
 use Rattle.scenario.specs.declared.lines.Line.TheVariants as lines
 use Rattle.scenario.specs.declared.lines.Mode.{Mode}
-use Rattle.sim_cluster.specs.Cluster.{GoesOn, IsRunOf}
-use Rattle.sim_cluster.specs.View.{View}
+use Rattle.one_node.specs.Cluster.{GoesOn, IsRunOf}
+use Rattle.one_node.specs.View.{View}
 use Rattle.mr_shell.specs.Run.{report_of}
 use Rattle.mr_shell.specs.Session.{HasRead, HasRun, StopsAt}
-use Rattle.run_laws.specs.LinesRun.{IsNextLine, LinesRun, with_line}
+use Rattle.one_node_laws.specs.LinesRun.{IsNextLine, LinesRun, with_line}
 use Rattle.mr_shell.specs.Story.{run_with}
 use Rattle.mr_shell.specs.Texts.{Report, ShowsSome, Wrote, journal_text, texts}
 use Rattle.mr_shell.specs.declared.outcome.End.{End}

@@ -1,8 +1,8 @@
 use Rattle.std.specs.Prelude.{◌≡◌, ◌≢◌, ◌⊎◌, ℕ, ◌+◌, List, [], ◌∷◌, ◌++◌, Option, length, take, ◌≤◌, Some, None}
 use Rattle.scenario.specs.declared.entries.JournalEntry.{JournalEntry}
 use Rattle.scenario.specs.declared.lines.Mode.{Mode}
-use Rattle.sim_cluster.specs.Cluster.{IsRunOf}
-use Rattle.sim_cluster.specs.View.{View}
+use Rattle.one_node.specs.Cluster.{IsRunOf}
+use Rattle.one_node.specs.View.{View}
 use Rattle.std.specs.Io.KnownBytes.{prepend_known}
 use Rattle.mr_shell.specs.Content.{AreAllLines, AreFirstLines, IsCut}
 use Rattle.mr_shell.specs.Story.{Story, Tells, HasFault}

@@ -7,9 +7,9 @@ use Rattle.scenario.specs.declared.entries.JournalEntry.{JournalEntry}
 use Rattle.scenario.specs.declared.lines.Line.{Line}
 use Rattle.scenario.specs.declared.lines.Line.TheVariants as lines
 use Rattle.scenario.specs.declared.first_path.Expected.TheVariants as expected
-use Rattle.sim_cluster.specs.Bounds.{AreSettings}
-use Rattle.sim_cluster.specs.Cluster.{IsRunOf, IsStep}
-use Rattle.sim_cluster.specs.View.{View}
+use Rattle.one_node.specs.Bounds.{AreSettings}
+use Rattle.one_node.specs.Cluster.{IsRunOf, IsStep}
+use Rattle.one_node.specs.View.{View}
 use Rattle.mr_shell.specs.Run.{AreRun, report_of, ShowsAll, ShowsEntries, ShowsPart, EndsSaying, EndsShort, EndsUnwritten}
 use Rattle.mr_shell.specs.Story.{Story, Tells, HasFault}
 use Rattle.mr_shell.specs.Texts.{Report, Wrote}

@@ -3,8 +3,8 @@
 ghost use Rattle.std.specs.Prelude.{◌≡◌, ◌≢◌, ◌≤◌, ◌<◌, ◌^◌, ℕ, List, Option, [], ◌∷◌, IfErr, IsOk, OnOk, codes};
 ghost use Rattle.scenario.specs.declared.lines.Line.TheVariants as lines;
 ghost use Rattle.scenario.specs.declared.first_path.Expected.TheVariants as expecteds;
-ghost use Rattle.sim_cluster.specs.Bounds.{AreSettings};
-ghost use Rattle.sim_cluster.specs.Cluster.{IsStep};
+ghost use Rattle.one_node.specs.Bounds.{AreSettings};
+ghost use Rattle.one_node.specs.Cluster.{IsStep};
 ghost use Rattle.mr_base.specs.declared.nodes.NodeInfo.{NodeInfo};
 ghost use Rattle.mr_io.specs.Faults.{CountsFault};
 ghost use Rattle.mr_shell.specs.Ends.{EndsLines};
@@ -18,7 +18,7 @@ use crate::runner::Runner;
 use mr_base::Settings;
 use mr_io::Sink;
 use scenario::{Event, FirstPath, Journal, Line, LineFault, Mode, NoWorld, standard_settings};
-use sim_cluster::Cluster;
+use one_node::Cluster;
 use std::alloc::Global;
 
 /// The scenario as it was read so far, and the cluster that runs it.

@@ -13,9 +13,9 @@ ghost use Rattle.mr_shell.specs.ZoneRun.{AreFaultlessZones, AreFaultyZones, AreT
 ghost use Rattle.zone_report.specs.declared.report.Format.{Format as AnyFormat};
 ghost use Rattle.scenario.specs.declared.lines.Mode.{Mode as AnyMode};
 ghost use Rattle.mr_shell.specs.declared.outcome.End.{End};
-ghost use Rattle.run_laws.specs.Answered.{AreAnswered};
-ghost use Rattle.run_laws.specs.Serial.{IsSerial};
-ghost use Rattle.run_laws.specs.Visible.{IsVisible};
+ghost use Rattle.one_node_laws.specs.Answered.{AreAnswered};
+ghost use Rattle.one_node_laws.specs.Serial.{IsSerial};
+ghost use Rattle.one_node_laws.specs.Visible.{IsVisible};
 
 use crate::outcome::{End, Outcome};
 use crate::pieces::run_source;
@@ -23,7 +23,7 @@ use crate::session::Session;
 use crate::tasks::{Task, task_of};
 use crate::zones_session::ZonesSession;
 use mr_io::{Sink, Source, write_all};
-use run_laws::{lawful_is_serial, lawful_is_visible};
+use one_node_laws::{lawful_is_serial, lawful_is_visible};
 use scenario::{Journal, Mode};
 use std::alloc::Global;
 use zone_report::{Format, ranges_are_placed};

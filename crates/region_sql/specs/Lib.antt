@@ -1,5 +1,5 @@
 pub mod Faults
-pub mod FirstForms
+pub mod OneColumnForms
 pub mod Forms
 pub mod Grammar
 pub mod IntText

@@ -3,12 +3,12 @@
 
 mod byte_classes;
 mod databases;
-mod first_forms;
 mod lexer;
 mod lexing;
 mod listing;
 mod lists;
 mod numbers;
+mod one_column_forms;
 mod parse;
 mod region_readers;
 mod region_statements;
@@ -20,7 +20,7 @@ mod token_readers;
 mod tokens;
 mod words;
 
-pub use first_forms::{FirstStatement, first_statement, int_of};
+pub use one_column_forms::{OneColumnStatement, int_of, one_column_statement};
 pub use parse::{one_meaning, parse_list, parse_statement};
 pub use region_statements::{ColumnKey, ColumnType, Goal, Item, Locality, RegionStatement};
 pub use row_statements::{

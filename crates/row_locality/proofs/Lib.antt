@@ -1,1 +1,1 @@
-pub mod KeyLemmas
+pub mod OneColumnKeyLemmas

@@ -1,2 +1,2 @@
-pub mod Databases
-pub mod IntRows
+pub mod OneColumnDatabases
+pub mod OneColumnRows

@@ -1,9 +1,9 @@
 //! Rows as pairs of key and value, and the spans that hold them.
 #![tactic(auto)]
 
-mod int_rows;
+mod one_column_rows;
 
-pub use int_rows::{all_rows, int_of_value, int_point, int_row};
+pub use one_column_rows::{one_column_point, one_column_row, one_column_span, one_column_value};
 
 #[cfg(test)]
 mod tests;

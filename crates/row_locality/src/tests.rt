@@ -26,14 +26,14 @@ const ROWS: [(i64, &[u8], &[u8]); 3] = [
 fn rows_are_laid_out(rt: HostRuntime) -> Result<(), Fail> {
     let alloc = rt.alloc();
     for (n, key, value) in ROWS {
-        let row = int_row(alloc, n)?;
+        let row = one_column_row(alloc, n)?;
         assert!(rt; row.key.as_slice() == key);
         assert!(rt; row.value.as_slice() == value);
-        let point = int_point(alloc, n)?;
+        let point = one_column_point(alloc, n)?;
         assert!(rt; point.lo.as_slice() == key);
         assert!(rt; point.hi.as_slice().strip_prefix(key) == Some(b"\x00".as_slice()));
     }
-    let all = all_rows(alloc)?;
+    let all = one_column_span(alloc)?;
     assert!(rt; all.lo.as_slice() == b"\x00".as_slice());
     assert!(rt; all.hi.as_slice() == b"\x01".as_slice());
     Ok(())

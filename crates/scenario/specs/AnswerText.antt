@@ -10,9 +10,9 @@ use Rattle.mr_base.specs.declared.rows.Datum.{Datum}
 use Rattle.mr_base.specs.declared.states.SqlState.{SqlState}
 use Rattle.mr_base.specs.declared.timestamps.Ts.{Ts}
 use Rattle.scenario.specs.Text.{line_end, joined, name_of, datum_text, nodes_text}
-use Rattle.scenario.specs.declared.entries.StatementResult.{StatementResult}
-use Rattle.scenario.specs.declared.entries.Verb.{Verb}
-use Rattle.scenario.specs.declared.entries.Verb.TheVariants as verb
+use Rattle.mr_base.specs.declared.results.StatementResult.{StatementResult}
+use Rattle.mr_base.specs.declared.results.Verb.{Verb}
+use Rattle.mr_base.specs.declared.results.Verb.TheVariants as verb
 use Rattle.scenario.specs.declared.entries.Why.{Why}
 use Rattle.scenario.specs.declared.entries.Why.TheVariants as why
 

@@ -5,8 +5,8 @@ use Rattle.mr_base.specs.declared.settings.Kind.TheVariants as kinds
 use Rattle.mr_base.specs.declared.nodes.NodeInfo.{NodeInfo}
 use Rattle.mr_base.specs.declared.ids.NodeId.{NodeId}
 use Rattle.mr_base.specs.declared.ids.TxnId.{TxnId}
-use Rattle.region_sql.specs.FirstForms.{IsFirstText}
-use Rattle.region_sql.specs.declared.first_forms.FirstStatement.{FirstStatement}
+use Rattle.region_sql.specs.OneColumnForms.{IsOneColumnText}
+use Rattle.region_sql.specs.declared.one_column_forms.OneColumnStatement.{OneColumnStatement}
 use Rattle.scenario.specs.declared.events.Event.{Event}
 use Rattle.scenario.specs.declared.events.Event.TheVariants as events
 use Rattle.scenario.specs.declared.lines.Line.{Line}
@@ -61,7 +61,7 @@ IsTxnLine line name list = (line ≡ codes "txn " ++ (name ++ 32 ∷ (codes "n1 
 
 -- A list that the cluster of one table takes.
 abbrev pub IsTaken : List ℕ → Type 0
-IsTaken list = (s : FirstStatement) × IsFirstText list s
+IsTaken list = (s : OneColumnStatement) × IsOneColumnText list s
 
 -- After the lines seen so far a line is read as this event, and these lines are seen then.
 abbrev pub ReadsEvent : Seen → List ℕ → Event → Seen → Type 0

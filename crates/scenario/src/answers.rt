@@ -4,9 +4,9 @@ ghost use Rattle.std.specs.Prelude.{◌≡◌, ◌++◌, OnOk};
 ghost use Rattle.scenario.specs.AnswerText.{ack_text, fault_text, refusal_text, lost_text, why_text};
 
 use crate::buffer::{Part, TextBuffer};
-use crate::entries::{StatementResult, Verb, Why};
+use crate::entries::Why;
 use crate::parts::{add_name, add_nodes};
-use mr_base::{Bytes, Memory, Row, SqlState, Ts, TxnId};
+use mr_base::{Bytes, Memory, Row, SqlState, StatementResult, Ts, TxnId, Verb};
 
 impl Part for Verb {
     ghost use Rattle.scenario.specs.AnswerText.{verb_text};

@@ -2,7 +2,7 @@
 
 use mr_base::{
     AttemptId, Bytes, Fate, Known, ListOf, MsgId, NodeId, NodeSet, RangeId, Reading, Reply,
-    Request, RowList, Span, SqlState, Ts, TxnId,
+    Request, Span, SqlState, StatementResult, Ts, TxnId,
 };
 use range_log::{Entry, RetryCause};
 
@@ -19,23 +19,6 @@ pub enum Shown {
 pub enum How {
     Lease,
     Closure,
-}
-
-/// The verb of a row statement.
-#[derive(Clone, Copy, Debug, PartialEq, Eq)]
-pub enum Verb {
-    Insert,
-    Update,
-    Delete,
-    Select,
-}
-
-/// The answer of one statement.
-#[derive(Debug, PartialEq, Eq, Drop)]
-pub struct StatementResult {
-    pub verb: Verb,
-    pub count: u64,
-    pub rows: RowList,
 }
 
 /// Why a transaction is refused.

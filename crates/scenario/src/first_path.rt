@@ -13,7 +13,7 @@ use crate::world::World;
 use mr_base::{
     Bytes, CloneIn, Kind, Memory, NodeId, NodeInfo, Settings, TxnId, after_head, round_blank,
 };
-use region_sql::first_statement;
+use region_sql::one_column_statement;
 use std::alloc::Global;
 use std::marker::Model;
 
@@ -124,7 +124,7 @@ fn node_line(line: &[u8]) -> Option<u64>
 fn is_taken(list: &[u8]) -> bool
     ensures { IsTrue result ↔ IsTaken list.now }
 {
-    first_statement(list).is_some()
+    one_column_statement(list).is_some()
 }
 
 /// Whether a name is among these.

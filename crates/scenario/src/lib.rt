@@ -27,11 +27,12 @@ mod words;
 mod world;
 
 pub use counts::counts_of;
-pub use entries::{How, JournalEntry, LeaseWhy, Shown, SqlWhy, StatementResult, Verb, Why};
+pub use entries::{How, JournalEntry, LeaseWhy, Shown, SqlWhy, Why};
 pub use events::Event;
 pub use first_path::{Expected, FirstPath, standard_settings};
 pub use journal::Journal;
 pub use lines::{Line, LineFault, Mode};
+pub use mr_base::{StatementResult, Verb};
 pub use reader::{Scenario, lines_are_sound};
 pub use text::{text_of, texts_stay};
 pub use world::{NoWorld, World};

@@ -1,1 +1,1 @@
-pub mod ExecutionLemmas
+pub mod OneColumnExecutionLemmas

@@ -1,3 +1,3 @@
-pub mod Agreement
-pub mod Execution
-pub mod NextSpan
+pub mod OneColumnAgreement
+pub mod OneColumnExecution
+pub mod OneColumnNextSpan

@@ -1,10 +1,10 @@
 //! What a statement does on a plain table, and which spans it reads.
 #![tactic(auto)]
 
-mod execution;
-mod tables;
+mod one_column_execution;
+mod one_column_tables;
 
-pub use execution::{Execution, execute};
+pub use one_column_execution::{OneColumnExecution, execute_one_column};
 
 #[cfg(test)]
 mod tests;

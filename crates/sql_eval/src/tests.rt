@@ -2,7 +2,7 @@
 
 use super::*;
 use mr_base::{Datum, ListOf, Row, SqlState};
-use region_sql::FirstStatement;
+use region_sql::OneColumnStatement;
 use std::test::Fail;
 
 /// Whether the rows have these ids, in this order.
@@ -26,14 +26,14 @@ fn have_ids(rows: &[Row], ids: &[i64]) -> bool {
 #[test]
 fn a_row_is_inserted_once(rt: HostRuntime) -> Result<(), Fail> {
     let alloc = rt.alloc();
-    let one = execute(alloc, FirstStatement::Insert(1), &[])?
+    let one = execute_one_column(alloc, OneColumnStatement::Insert(1), &[])?
         .ok()
         .ok_or("a fault")?;
     assert!(rt; one.count == 1 && one.rows.is_empty());
-    let all = execute(alloc, FirstStatement::SelectAll, one.after.as_slice())?;
+    let all = execute_one_column(alloc, OneColumnStatement::SelectAll, one.after.as_slice())?;
     let all = all.ok().ok_or("a fault")?;
     assert!(rt; all.count == 1 && have_ids(all.rows.as_slice(), &[1]));
-    let again = execute(alloc, FirstStatement::Insert(1), all.after.as_slice())?;
+    let again = execute_one_column(alloc, OneColumnStatement::Insert(1), all.after.as_slice())?;
     assert!(rt; matches!(again, Err(SqlState::S23505)));
     Ok(())
 }
@@ -43,10 +43,10 @@ fn rows_stand_in_the_order_of_their_ids(rt: HostRuntime) -> Result<(), Fail> {
     let alloc = rt.alloc();
     let mut table = ListOf::new(alloc);
     for n in [0, -1, i64::MAX, 7, i64::MIN] {
-        let added = execute(alloc, FirstStatement::Insert(n), table.as_slice())?;
+        let added = execute_one_column(alloc, OneColumnStatement::Insert(n), table.as_slice())?;
         table = added.ok().ok_or("a fault")?.after;
     }
-    let all = execute(alloc, FirstStatement::SelectAll, table.as_slice())?;
+    let all = execute_one_column(alloc, OneColumnStatement::SelectAll, table.as_slice())?;
     let all = all.ok().ok_or("a fault")?;
     assert!(rt; all.count == 5);
     assert!(rt; have_ids(all.rows.as_slice(), &[i64::MIN, -1, 0, 7, i64::MAX]));

@@ -1,9 +1,9 @@
 use Rattle.std.proofs.Common.{refl, ap, subst}
 use Rattle.scenario.specs.declared.lines.Line.TheVariants as lines
 use Rattle.mr_base.specs.declared.settings.Settings.{Settings}
-use Rattle.sim_cluster.specs.Cluster.{IsRunOf}
-use Rattle.sim_cluster.specs.View.{View}
-use Rattle.run_laws.specs.LinesRun.{no_lines}
+use Rattle.one_node.specs.Cluster.{IsRunOf}
+use Rattle.one_node.specs.View.{View}
+use Rattle.one_node_laws.specs.LinesRun.{no_lines}
 use Rattle.mr_shell.proofs.RunLines.{has_run_anew}
 use Rattle.mr_shell.proofs.session.Session.place.Goals as goal
 

@@ -1,7 +1,7 @@
 use Rattle.std.proofs.Common.{refl, ap}
 use Rattle.scenario.specs.declared.lines.Line.TheVariants as lines
-use Rattle.sim_cluster.specs.View.{View}
-use Rattle.run_laws.specs.LinesRun.{no_lines}
+use Rattle.one_node.specs.View.{View}
+use Rattle.one_node_laws.specs.LinesRun.{no_lines}
 use Rattle.mr_shell.proofs.RunLines.{has_run_anew}
 use Rattle.mr_shell.proofs.session.Session.set.Goals as goal
 

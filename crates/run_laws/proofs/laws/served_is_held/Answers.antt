@@ -1,5 +1,0 @@
-use Rattle.run_laws.proofs.SumOf.{held}
-use Rattle.run_laws.proofs.laws.served_is_held.Goals as goal
-
-pub returns : goal.returns
-returns c = held

@@ -1,7 +1,0 @@
-use Rattle.std.proofs.Common.{◌≡◌, ◌++◌}
-use Rattle.std.specs.Prelude.{map}
-use Rattle.row_locality.specs.Databases.{row_with}
-use Rattle.sim_cluster.proofs.transaction.rows_of.Given as goal
-
-abbrev pub invariant-loop-id : goal.invariant-loop-id
-invariant-loop-id l = l.rows.items ++ map row_with l.id-iterator ≡ map row_with l.ids.keys
