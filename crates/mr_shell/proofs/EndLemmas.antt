@@ -1,7 +1,7 @@
 -- How a run has ended, once what was to be said of it was written.
 use Rattle.std.proofs.Common.{◌≡◌, ℕ, List, [], ◌++◌, Option, ap, sym, ◌∙◌, append_assoc, append-nil, inl, inr, subst, take}
 use Rattle.std.specs.Io.KnownBytes.{append_known}
-use Rattle.scenario.specs.declared.entries.JournalEntry.{JournalEntry}
+use Rattle.journal.specs.declared.entries.JournalEntry.{JournalEntry}
 use Rattle.mr_shell.specs.Ends.{EndsPieces, status_of}
 use Rattle.mr_shell.specs.Run.{IsWithinLimit, AreRun, EndsSaying, EndsShort, EndsWith, EndsUnwritten, HasEnded, report_of}
 use Rattle.mr_shell.specs.Content.{AreFirstLines}

@@ -2,7 +2,7 @@
 use Rattle.std.proofs.Common.{◌≡◌, ◌≢◌, ℕ, List, [], ◌∷◌, ◌++◌, Option, Some, None, refl, ap, sym, ◌∙◌, subst, inl, inr, length, length-append, append-nil, arith}
 use Rattle.std.specs.Prelude.{◌⊎◌}
 use Rattle.std.specs.Io.KnownBytes.{prepend_known}
-use Rattle.scenario.specs.declared.entries.JournalEntry.{JournalEntry}
+use Rattle.journal.specs.declared.entries.JournalEntry.{JournalEntry}
 use Rattle.mr_shell.specs.Content.{AreFirstLines, BeginsWith, IsCut, with_last}
 use Rattle.mr_shell.specs.Ends.{status_of}
 use Rattle.mr_shell.specs.Run.{HasEnded, IsFaultless, IsFaulty, IsTooLarge, IsWithinLimit}

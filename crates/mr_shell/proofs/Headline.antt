@@ -3,7 +3,7 @@ use Rattle.one_node_laws.specs.Answered.{AreAnswered}
 use Rattle.one_node_laws.specs.Laws.{LawfulIsSerial, LawfulIsVisible}
 use Rattle.one_node_laws.specs.Serial.{IsSerial}
 use Rattle.one_node_laws.specs.Visible.{IsVisible}
-use Rattle.scenario.specs.declared.entries.JournalEntry.{JournalEntry}
+use Rattle.journal.specs.declared.entries.JournalEntry.{JournalEntry}
 use Rattle.mr_shell.specs.Run.{AreRun}
 use Rattle.mr_shell.specs.Story.{Story}
 

@@ -4,8 +4,8 @@ use Rattle.mr_base.specs.declared.ids.TxnId.{TxnId}
 use Rattle.one_node_laws.specs.LinesRun.{AreBefore, AreNotOf, IsNextLine, IsNotOf, LinesRun, NumberedEvent}
 use Rattle.scenario.specs.FirstPath.{Reads}
 use Rattle.scenario.specs.FirstSeen.{Seen}
-use Rattle.scenario.specs.declared.events.Event.{Event}
-use Rattle.scenario.specs.declared.events.Event.TheVariants as events
+use Rattle.journal.specs.declared.events.Event.{Event}
+use Rattle.journal.specs.declared.events.Event.TheVariants as events
 use Rattle.scenario.specs.declared.lines.Line.{Line}
 use Rattle.scenario.specs.declared.lines.Line.TheVariants as lines
 use Rattle.mr_shell.specs.Story.{Story, Tells, run_with}

@@ -1,8 +1,8 @@
 -- What is shown where nothing was read.
 use Rattle.std.proofs.Common.{◌≡◌, ℕ, List, [], Option, Some, None, inl, refl, sym, ap, append-nil, arith}
 use Rattle.std.specs.Io.KnownBytes.{append_known, prepend_known}
-use Rattle.scenario.specs.FirstPath.{the_standard_settings}
-use Rattle.scenario.specs.declared.lines.Mode.{Mode}
+use Rattle.journal.specs.Settings.{the_standard_settings}
+use Rattle.journal_text.specs.declared.modes.Mode.{Mode}
 use Rattle.mr_shell.specs.Content.{BeginsWith}
 use Rattle.mr_shell.specs.Run.{AreRun, EndsShort, IsWithinLimit}
 use Rattle.mr_shell.specs.Story.{no_story}

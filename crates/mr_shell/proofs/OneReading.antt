@@ -3,7 +3,7 @@ use Rattle.std.proofs.Common.{◌≡◌, ◌≢◌, ℕ, List, [], ◌∷◌, �
 use Rattle.std.specs.Prelude.{◌⊎◌, codes, slice_index}
 use Rattle.scenario.specs.FirstPath.{IsNodeLine, IsSkipped, IsTxnLine, Reads}
 use Rattle.scenario.specs.FirstSeen.{Seen}
-use Rattle.scenario.specs.declared.events.Event.TheVariants as events
+use Rattle.journal.specs.declared.events.Event.TheVariants as events
 use Rattle.scenario.specs.declared.lines.Line.{Line}
 use Rattle.scenario.specs.declared.lines.Line.TheVariants as lines
 use Rattle.scenario.specs.declared.first_path.Expected.{Expected}

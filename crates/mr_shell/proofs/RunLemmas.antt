@@ -7,18 +7,18 @@ use Rattle.std.proofs.Math.Seq.{drop-append_seam}
 use Rattle.std.specs.Io.KnownBytes.{append_known}
 use Rattle.mr_base.specs.declared.ids.TxnId.{TxnId}
 use Rattle.mr_io.proofs.Told.{append_known-append, append_known-nil}
-use Rattle.scenario.specs.EntryText.{entry_text}
+use Rattle.journal_text.specs.EntryText.{entry_text}
 use Rattle.scenario.specs.FirstPath.{Reads}
-use Rattle.scenario.specs.Names.{NamesOnly}
+use Rattle.journal.specs.Names.{NamesOnly}
 use Rattle.scenario.specs.FirstSeen.{Seen}
-use Rattle.scenario.specs.declared.entries.JournalEntry.{JournalEntry}
-use Rattle.scenario.specs.declared.events.Event.{Event}
-use Rattle.scenario.specs.declared.events.Event.TheVariants as events
+use Rattle.journal.specs.declared.entries.JournalEntry.{JournalEntry}
+use Rattle.journal.specs.declared.events.Event.{Event}
+use Rattle.journal.specs.declared.events.Event.TheVariants as events
 use Rattle.scenario.specs.declared.lines.Line.{Line}
 use Rattle.scenario.specs.declared.lines.Line.TheVariants as lines
-use Rattle.scenario.specs.declared.lines.Mode.{Mode}
-use Rattle.scenario.proofs.MoreNames.{texts-more}
-use Rattle.scenario.proofs.NamesOnly.{NamesOnly-append, NamesOnly-reverse, NamesOnly-weaker}
+use Rattle.journal_text.specs.declared.modes.Mode.{Mode}
+use Rattle.journal_text.proofs.MoreNames.{texts-more}
+use Rattle.journal.proofs.NamesOnly.{NamesOnly-append, NamesOnly-reverse, NamesOnly-weaker}
 use Rattle.one_node.specs.Cluster.{GoesOn, IsOf, IsRunOf}
 use Rattle.one_node.specs.View.{View}
 use Rattle.mr_base.specs.declared.settings.Settings.{Settings}

@@ -4,12 +4,12 @@ use Rattle.std.specs.Prelude.{◌⊎◌, reverse}
 use Rattle.std.specs.Io.KnownBytes.{append_known}
 use Rattle.mr_base.specs.declared.byte_string.Bytes.{Bytes}
 use Rattle.mr_base.specs.declared.settings.Settings.{Settings}
-use Rattle.scenario.specs.Names.{NamesOnly}
-use Rattle.scenario.specs.declared.entries.JournalEntry.{JournalEntry}
-use Rattle.scenario.specs.declared.events.Event.{Event}
+use Rattle.journal.specs.Names.{NamesOnly}
+use Rattle.journal.specs.declared.entries.JournalEntry.{JournalEntry}
+use Rattle.journal.specs.declared.events.Event.{Event}
 use Rattle.scenario.specs.declared.lines.Line.{Line}
 use Rattle.scenario.specs.declared.lines.Line.TheVariants as lines
-use Rattle.scenario.specs.declared.lines.Mode.{Mode}
+use Rattle.journal_text.specs.declared.modes.Mode.{Mode}
 use Rattle.one_node.specs.Cluster.{GoesOn, IsRunOf}
 use Rattle.one_node.specs.View.{View}
 use Rattle.mr_shell.specs.Run.{report_of}

@@ -1,7 +1,7 @@
 -- Why a run ends, as its session tells it.
 use Rattle.std.proofs.Common.{ℕ, List, [], ◌∷◌, ◌++◌, Option, ap, sym, ◌∙◌, append-nil, inl, inr}
 use Rattle.std.specs.Io.KnownBytes.{append_known}
-use Rattle.scenario.specs.declared.entries.JournalEntry.{JournalEntry}
+use Rattle.journal.specs.declared.entries.JournalEntry.{JournalEntry}
 use Rattle.mr_shell.specs.Content.{AreFirstLines}
 use Rattle.mr_shell.specs.Pieces.{Stops as PiecesStop}
 use Rattle.mr_shell.specs.Run.{IsWithinLimit, ShowsAll, report_of}

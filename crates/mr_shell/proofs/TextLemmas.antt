@@ -6,9 +6,9 @@ use Rattle.std.proofs.lemmas.List.{drop_more, take-append-le}
 use Rattle.std.proofs.Math.Seq.{take-append-add}
 use Rattle.std.specs.Io.KnownBytes.{append_known}
 use Rattle.mr_io.specs.Pieces.{WrotePrefix}
-use Rattle.scenario.specs.EntryText.{entry_text}
-use Rattle.scenario.specs.declared.entries.JournalEntry.{JournalEntry}
-use Rattle.scenario.specs.declared.lines.Mode.{Mode}
+use Rattle.journal_text.specs.EntryText.{entry_text}
+use Rattle.journal.specs.declared.entries.JournalEntry.{JournalEntry}
+use Rattle.journal_text.specs.declared.modes.Mode.{Mode}
 use Rattle.mr_shell.proofs.RunLemmas.{texts-append, wrote-more}
 use Rattle.mr_shell.specs.Texts.{ShowsSome, Wrote, texts}
 use Rattle.mr_shell.specs.declared.outcome.End.TheVariants as ends

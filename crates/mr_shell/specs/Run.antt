@@ -1,6 +1,6 @@
 use Rattle.std.specs.Prelude.{◌≡◌, ◌≢◌, ◌⊎◌, ℕ, ◌+◌, List, [], ◌∷◌, ◌++◌, Option, length, take, ◌≤◌, Some, None}
-use Rattle.scenario.specs.declared.entries.JournalEntry.{JournalEntry}
-use Rattle.scenario.specs.declared.lines.Mode.{Mode}
+use Rattle.journal.specs.declared.entries.JournalEntry.{JournalEntry}
+use Rattle.journal_text.specs.declared.modes.Mode.{Mode}
 use Rattle.one_node.specs.Cluster.{IsRunOf}
 use Rattle.one_node.specs.View.{View}
 use Rattle.std.specs.Io.KnownBytes.{prepend_known}

@@ -1,9 +1,9 @@
 use Rattle.std.specs.Prelude.{◌≡◌, ◌≢◌, ◌⊎◌, ℕ, ◌+◌, ◌<◌, ◌^◌, [], List, Option, length}
 use Rattle.mr_base.specs.declared.settings.Settings.{Settings}
 use Rattle.scenario.specs.FirstPath.{Reads}
-use Rattle.scenario.specs.Names.{NamesOnly}
+use Rattle.journal.specs.Names.{NamesOnly}
 use Rattle.scenario.specs.FirstSeen.{Seen}
-use Rattle.scenario.specs.declared.entries.JournalEntry.{JournalEntry}
+use Rattle.journal.specs.declared.entries.JournalEntry.{JournalEntry}
 use Rattle.scenario.specs.declared.lines.Line.{Line}
 use Rattle.scenario.specs.declared.lines.Line.TheVariants as lines
 use Rattle.scenario.specs.declared.first_path.Expected.TheVariants as expected

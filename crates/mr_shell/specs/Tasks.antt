@@ -3,7 +3,7 @@ use Rattle.std.specs.declared.alloc.Global.{Global}
 use Rattle.command_words.specs.Words.{command_of}
 use Rattle.command_words.specs.declared.words.Command.{Command}
 use Rattle.command_words.specs.declared.words.Command.TheVariants as commands
-use Rattle.scenario.specs.declared.lines.Mode.TheVariants.{Answers, Trace}
+use Rattle.journal_text.specs.declared.modes.Mode.TheVariants.{Answers, Trace}
 use Rattle.zone_report.specs.declared.report.Format.TheVariants.{Json, Text}
 use Rattle.mr_shell.specs.declared.tasks.Task.{Task}
 use Rattle.mr_shell.specs.declared.tasks.Task.TheVariants as tasks

@@ -10,7 +10,7 @@ ghost use Rattle.mr_io.specs.Faults.{CountsFault};
 ghost use Rattle.mr_shell.specs.Ends.{EndsLines};
 ghost use Rattle.mr_shell.specs.Session.{IsReady, MayRun, HasRun, HasRead, StopsAt};
 ghost use Rattle.mr_shell.specs.Texts.{Report, report_to};
-ghost use Rattle.scenario.specs.declared.lines.Mode.{Mode};
+ghost use Rattle.journal_text.specs.declared.modes.Mode.{Mode};
 
 use crate::outcome::End;
 use crate::report::{entries_after, write_entries};

@@ -11,7 +11,7 @@ ghost use Rattle.mr_shell.specs.declared.tasks.Task.TheVariants.{Run, Zones as Z
 ghost use Rattle.mr_shell.specs.ZoneStory.{RangesStand, TellsZones, ZoneStory};
 ghost use Rattle.mr_shell.specs.ZoneRun.{AreFaultlessZones, AreFaultyZones, AreTooLargeZones, ZonesEnded};
 ghost use Rattle.zone_report.specs.declared.report.Format.{Format as AnyFormat};
-ghost use Rattle.scenario.specs.declared.lines.Mode.{Mode as AnyMode};
+ghost use Rattle.journal_text.specs.declared.modes.Mode.{Mode as AnyMode};
 ghost use Rattle.mr_shell.specs.declared.outcome.End.{End};
 ghost use Rattle.one_node_laws.specs.Answered.{AreAnswered};
 ghost use Rattle.one_node_laws.specs.Serial.{IsSerial};

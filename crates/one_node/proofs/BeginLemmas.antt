@@ -9,9 +9,9 @@ use Rattle.one_node_laws.specs.Runs.{IsRun}
 use Rattle.one_node_laws.specs.Steps.{numbers}
 use Rattle.one_node_laws.specs.Whole.{AreMade}
 use Rattle.one_node_laws.specs.Words.{attempts_of, greatest_start, log_of, the_range}
-use Rattle.scenario.specs.declared.entries.JournalEntry.{JournalEntry}
-use Rattle.scenario.specs.declared.entries.JournalEntry.TheVariants as entry
-use Rattle.scenario.specs.declared.events.Event.TheVariants as events
+use Rattle.journal.specs.declared.entries.JournalEntry.{JournalEntry}
+use Rattle.journal.specs.declared.entries.JournalEntry.TheVariants as entry
+use Rattle.journal.specs.declared.events.Event.TheVariants as events
 use Rattle.one_node.specs.Clock.{reading_of}
 use Rattle.row_locality.specs.OneColumnDatabases.{AreRising, AreInts, HasId}
 use Rattle.one_node.specs.Bounds.{IsBehind}

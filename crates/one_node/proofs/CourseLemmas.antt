@@ -24,10 +24,10 @@ use Rattle.one_node_laws.specs.LinesRun.{LinesRun, NumberedEvent}
 use Rattle.one_node_laws.specs.Served.{MayServe}
 use Rattle.one_node_laws.specs.Steps.{IsStepOf}
 use Rattle.one_node_laws.specs.Words.{ServedRead, HasPut, log_of, the_node, the_range}
-use Rattle.scenario.specs.declared.entries.How.{How}
-use Rattle.scenario.specs.declared.entries.How.TheVariants as how
-use Rattle.scenario.specs.declared.entries.JournalEntry.{JournalEntry}
-use Rattle.scenario.specs.declared.entries.JournalEntry.TheVariants as entry
+use Rattle.journal.specs.declared.entries.How.{How}
+use Rattle.journal.specs.declared.entries.How.TheVariants as how
+use Rattle.journal.specs.declared.entries.JournalEntry.{JournalEntry}
+use Rattle.journal.specs.declared.entries.JournalEntry.TheVariants as entry
 use Rattle.mr_base.specs.declared.results.Verb.TheVariants as verbs
 use Rattle.mr_base.specs.Spans.{IsInsideOne}
 use Rattle.sql_eval.specs.OneColumnNextSpan.{span_of}

@@ -16,8 +16,8 @@ use Rattle.row_locality.proofs.OneColumnKeyLemmas.{same_key, in_point, in_primar
 use Rattle.row_locality.specs.OneColumnDatabases.{AreRising, AreInts, HasId, IsInt, row_with}
 use Rattle.row_locality.specs.OneColumnRows.{int_key, int_value, point_of, the_primary_keys}
 use Rattle.one_node_laws.specs.Words.{HasPut, greatest_put, spans_served, the_range}
-use Rattle.scenario.specs.declared.entries.JournalEntry.{JournalEntry}
-use Rattle.scenario.specs.declared.entries.JournalEntry.TheVariants as entry
+use Rattle.journal.specs.declared.entries.JournalEntry.{JournalEntry}
+use Rattle.journal.specs.declared.entries.JournalEntry.TheVariants as entry
 use Rattle.one_node.proofs.LogLemmas.{IsHeld, held_behind, no_intent, tidy_closed, tidy_lease, tidy_puts, tidy_records, version_of, version_row}
 use Rattle.one_node.proofs.ReadLemmas.{Reads, agreeing_has, agreeing_held, int_of}
 use Rattle.one_node.specs.Bounds.{IsBehind}

@@ -6,8 +6,8 @@ use Rattle.mr_base.specs.declared.timestamps.Reading.{Reading}
 use Rattle.mr_base.specs.declared.timestamps.Ts.{Ts}
 use Rattle.range_log.specs.declared.entries.Entry.TheVariants as log
 use Rattle.one_node_laws.specs.Words.{ServedRead, WasServed}
-use Rattle.scenario.specs.declared.entries.JournalEntry.{JournalEntry}
-use Rattle.scenario.specs.declared.entries.JournalEntry.TheVariants as entry
+use Rattle.journal.specs.declared.entries.JournalEntry.{JournalEntry}
+use Rattle.journal.specs.declared.entries.JournalEntry.TheVariants as entry
 use Rattle.one_node.specs.Bounds.{IsBehind}
 use Rattle.one_node.specs.Kept.{IsWithin, AreWithin}
 

@@ -14,7 +14,7 @@ use Rattle.region_sql.specs.declared.one_column_forms.OneColumnStatement.TheVari
 use Rattle.row_locality.specs.OneColumnDatabases.{AreRising, AreInts, HasId, IsInt}
 use Rattle.row_locality.specs.OneColumnRows.{int_key, int_value}
 use Rattle.one_node_laws.specs.Words.{attempts_of, greatest_start, later_reading, log_of, the_range}
-use Rattle.scenario.specs.declared.entries.JournalEntry.{JournalEntry}
+use Rattle.journal.specs.declared.entries.JournalEntry.{JournalEntry}
 use Rattle.one_node.proofs.JournalLemmas.{behind_next, within_next}
 use Rattle.one_node.proofs.RowLemmas.{rising_insert, ints_insert, has_insert, contains_no_id}
 use Rattle.one_node.specs.Bounds.{IsBehind}

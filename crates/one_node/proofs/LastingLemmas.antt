@@ -14,7 +14,7 @@ use Rattle.one_node.specs.declared.courses.Course.{Course}
 use Rattle.one_node.specs.declared.courses.Course.TheVariants as courses
 use Rattle.one_node.specs.declared.range.Range.{Range}
 use Rattle.one_node.specs.declared.transaction.Begun.{Begun}
-use Rattle.scenario.specs.declared.entries.JournalEntry.{JournalEntry}
+use Rattle.journal.specs.declared.entries.JournalEntry.{JournalEntry}
 
 -- a clock shows no less than its physical part
 past_by : (physical : ℕ) (k : Reading) (t : Bool) → nat_lt k.wall physical ≡ t → physical ≤ (cond t (record { wall = physical; logical = 0 }) k).wall

@@ -20,10 +20,10 @@ use Rattle.one_node_laws.specs.Runs.{going_on}
 use Rattle.one_node_laws.specs.Served.{MayServe}
 use Rattle.one_node_laws.specs.Steps.{numbers, IsStepOf}
 use Rattle.one_node_laws.specs.Words.{Beginning, ServedRead, WasServed, IsAnswered, attempts_of, begun_here, lines_of, log_of, spans_served, the_node, the_range}
-use Rattle.scenario.specs.declared.entries.How.TheVariants as how
-use Rattle.scenario.specs.declared.entries.JournalEntry.{JournalEntry}
-use Rattle.scenario.specs.declared.entries.JournalEntry.TheVariants as entry
-use Rattle.scenario.specs.declared.events.Event.TheVariants as events
+use Rattle.journal.specs.declared.entries.How.TheVariants as how
+use Rattle.journal.specs.declared.entries.JournalEntry.{JournalEntry}
+use Rattle.journal.specs.declared.entries.JournalEntry.TheVariants as entry
+use Rattle.journal.specs.declared.events.Event.TheVariants as events
 use Rattle.one_node.proofs.FactLemmas.{LogFacts, log_facts, no_spans, told_same}
 use Rattle.one_node.proofs.JournalLemmas.{served_before}
 use Rattle.one_node.proofs.LogLemmas.{all_entries}

@@ -19,11 +19,11 @@ use Rattle.one_node_laws.specs.Runs.{IsRun, HasLine, IsLineOf}
 use Rattle.one_node_laws.specs.Settled.{AreWithin, furthest}
 use Rattle.one_node_laws.specs.Whole.{IsMade, AreMade}
 use Rattle.one_node_laws.specs.Words.{Beginning, Began, IsAnswered, greatest_start, later_reading, lines_of, log_of, the_node, the_range}
-use Rattle.scenario.specs.Names.{NamesOnly}
-use Rattle.scenario.specs.declared.entries.JournalEntry.{JournalEntry}
-use Rattle.scenario.specs.declared.entries.JournalEntry.TheVariants as entry
-use Rattle.scenario.specs.declared.events.Event.{Event}
-use Rattle.scenario.specs.declared.events.Event.TheVariants as events
+use Rattle.journal.specs.Names.{NamesOnly}
+use Rattle.journal.specs.declared.entries.JournalEntry.{JournalEntry}
+use Rattle.journal.specs.declared.entries.JournalEntry.TheVariants as entry
+use Rattle.journal.specs.declared.events.Event.{Event}
+use Rattle.journal.specs.declared.events.Event.TheVariants as events
 use Rattle.one_node.proofs.KnownLemmas.{IsNext, IsOfInts, later_next, line_journal, made_range}
 use Rattle.one_node.proofs.LineLemmas.{TxnFacts, beginning_of}
 use Rattle.one_node.proofs.LogLemmas.{no_intent}

@@ -13,7 +13,7 @@ use Rattle.one_node_laws.specs.Determined.{Agrees, ArePuts, GivesPuts, GivesResu
 use Rattle.one_node_laws.specs.Lawful.{IsLawful}
 use Rattle.one_node_laws.specs.LinesRun.{LinesRun, NumberedEvent}
 use Rattle.one_node_laws.specs.Words.{log_of, the_range}
-use Rattle.scenario.specs.declared.entries.JournalEntry.{JournalEntry}
+use Rattle.journal.specs.declared.entries.JournalEntry.{JournalEntry}
 use Rattle.mr_base.specs.declared.results.Verb.TheVariants as verbs
 use Rattle.one_node.proofs.CourseLemmas.{fault_ok, insert_ok, put_ok, refuse_caused, refuse_ok, resolve_ok, select_ok, state_ok, with_put, with_resolve, with_serve}
 use Rattle.one_node.proofs.FactLemmas.{faults, insert_puts, inserts, selects}

@@ -2,11 +2,11 @@ use Rattle.std.specs.Prelude.{◌≡◌, ◌≢◌, List, [], ◌++◌}
 use Rattle.mr_base.specs.declared.ids.TxnId.{TxnId}
 use Rattle.mr_base.specs.declared.settings.Kind.TheVariants as kinds
 use Rattle.one_node_laws.specs.Words.{the_node}
-use Rattle.scenario.specs.FirstPath.{IsTaken}
-use Rattle.scenario.specs.Names.{NamesOnly}
-use Rattle.scenario.specs.declared.entries.JournalEntry.{JournalEntry}
-use Rattle.scenario.specs.declared.events.Event.{Event}
-use Rattle.scenario.specs.declared.events.Event.TheVariants as events
+use Rattle.region_sql.specs.OneColumnForms.{IsTaken}
+use Rattle.journal.specs.Names.{NamesOnly}
+use Rattle.journal.specs.declared.entries.JournalEntry.{JournalEntry}
+use Rattle.journal.specs.declared.events.Event.{Event}
+use Rattle.journal.specs.declared.events.Event.TheVariants as events
 use Rattle.one_node_laws.specs.LinesRun.{LinesRun}
 use Rattle.one_node_laws.specs.Runs.{IsRun}
 use Rattle.one_node.specs.View.{View}

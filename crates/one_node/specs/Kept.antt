@@ -12,8 +12,8 @@ use Rattle.range_log.specs.declared.entries.TxnState.TheVariants as records
 use Rattle.row_locality.specs.OneColumnDatabases.{AreRising, AreInts, HasId, IsInt}
 use Rattle.row_locality.specs.OneColumnRows.{int_key, int_value}
 use Rattle.one_node_laws.specs.Words.{log_of, the_range, attempts_of, greatest_start}
-use Rattle.scenario.specs.declared.entries.JournalEntry.{JournalEntry}
-use Rattle.scenario.specs.declared.entries.JournalEntry.TheVariants as entry
+use Rattle.journal.specs.declared.entries.JournalEntry.{JournalEntry}
+use Rattle.journal.specs.declared.entries.JournalEntry.TheVariants as entry
 use Rattle.one_node.specs.Bounds.{IsBehind}
 use Rattle.one_node.specs.Steps.{first_lease}
 use Rattle.one_node.specs.declared.range.Range.{Range}

@@ -11,11 +11,11 @@ use Rattle.range_log.specs.declared.entries.Lease.{Lease}
 use Rattle.range_log.specs.declared.entries.TxnState.TheVariants as records
 use Rattle.row_locality.specs.OneColumnDatabases.{row_with}
 use Rattle.row_locality.specs.OneColumnRows.{int_key, int_value, point_of, the_primary_keys}
-use Rattle.scenario.specs.declared.entries.How.TheVariants as how
-use Rattle.scenario.specs.declared.entries.JournalEntry.{JournalEntry}
-use Rattle.scenario.specs.declared.entries.JournalEntry.TheVariants as entry
+use Rattle.journal.specs.declared.entries.How.TheVariants as how
+use Rattle.journal.specs.declared.entries.JournalEntry.{JournalEntry}
+use Rattle.journal.specs.declared.entries.JournalEntry.TheVariants as entry
 use Rattle.mr_base.specs.declared.results.Verb.TheVariants as verb
-use Rattle.scenario.specs.declared.entries.Why.TheVariants as why
+use Rattle.journal.specs.declared.entries.Why.TheVariants as why
 use Rattle.one_node.specs.declared.courses.Course.{Course}
 use Rattle.one_node.specs.declared.courses.Course.TheVariants as courses
 use Rattle.one_node.specs.declared.transaction.Begun.{Begun}

@@ -2,8 +2,8 @@
 
 ghost use Rattle.std.specs.Prelude.{◌≡◌, ◌<◌, ◌^◌, ◌++◌, [], reverse, OnOk, OnErr};
 ghost use Rattle.one_node_laws.specs.LinesRun.{LinesRun, IsNextLine, no_lines, with_line};
-ghost use Rattle.scenario.specs.FirstPath.{IsTaken};
-ghost use Rattle.scenario.specs.declared.events.Event.{Event};
+ghost use Rattle.region_sql.specs.OneColumnForms.{IsTaken};
+ghost use Rattle.journal.specs.declared.events.Event.{Event};
 ghost use Rattle.one_node.specs.Bounds.{AreSettings};
 ghost use Rattle.one_node.specs.Cluster.{IsStep, GoesOn, Continues, IsRunOf};
 ghost use Rattle.one_node_laws.specs.Words.{the_node};
@@ -16,7 +16,7 @@ use crate::steps::{begin_steps, lease_until, transaction_steps};
 use crate::transaction::Begun;
 use mr_base::{AttemptId, Memory, Settings, TxnId};
 use region_sql::{OneColumnStatement, one_column_statement};
-use scenario::{Event, Journal, JournalEntry};
+use journal::{Event, Journal, JournalEntry};
 use std::alloc::Global;
 use std::marker::Model;
 

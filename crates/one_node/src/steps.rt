@@ -3,7 +3,7 @@
 ghost use Rattle.std.specs.Prelude.{◌≡◌, ◌+◌, ◌<◌, ◌≤◌, ◌^◌, ◌∷◌, [], IfOk, false};
 ghost use Rattle.mr_base.specs.Timestamps.{ts_lt};
 ghost use Rattle.range_log.specs.declared.entries.Entry.TheVariants as log;
-ghost use Rattle.scenario.specs.declared.entries.JournalEntry.{JournalEntry};
+ghost use Rattle.journal.specs.declared.entries.JournalEntry.{JournalEntry};
 ghost use Rattle.one_node.specs.Steps.{append_step, first_lease, course_steps, line_steps, insert_steps, serve_step, ack_insert, ack_select, duplicate};
 ghost use Rattle.row_locality.specs.OneColumnRows.{point_of, the_primary_keys};
 
@@ -17,7 +17,7 @@ use crate::transaction::{
 use mr_base::{Memory, Reading, Ts};
 use range_log::{Entry, Lease};
 use row_locality::{one_column_point, one_column_span};
-use scenario::JournalEntry;
+use journal::JournalEntry;
 use std::alloc::Global;
 
 /// The first lease of the range, up to this wall.

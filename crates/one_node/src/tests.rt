@@ -4,7 +4,8 @@
 use super::*;
 use mr_base::{Bytes, Kind, ListOf, NodeId, SqlState, TxnId};
 use region_sql::{OneColumnStatement, one_column_statement};
-use scenario::{Event, JournalEntry, Mode, StatementResult, Verb, standard_settings, text_of};
+use journal::{Event, JournalEntry, StatementResult, Verb, standard_settings};
+use journal_text::{Mode, text_of};
 use sql_eval::{OneColumnExecution, execute_one_column};
 use std::alloc::Global;
 use std::test::Fail;

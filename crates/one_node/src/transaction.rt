@@ -10,7 +10,7 @@ use mr_base::{
 };
 use range_log::{Entry, TxnState};
 use row_locality::one_column_row;
-use scenario::{How, JournalEntry, StatementResult, Verb, Why};
+use journal::{How, JournalEntry, StatementResult, Verb, Why};
 use std::alloc::Global;
 use std::collections::BTreeSet;
 

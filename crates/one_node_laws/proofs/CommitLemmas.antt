@@ -17,7 +17,7 @@ use Rattle.one_node_laws.specs.Decided.{after}
 use Rattle.one_node_laws.specs.Determined.{ArePuts, GivesPuts, GivesResults}
 use Rattle.one_node_laws.specs.Serial.{Answers}
 use Rattle.one_node_laws.specs.Words.{HasPut, log_of, the_range}
-use Rattle.scenario.specs.declared.entries.JournalEntry.{JournalEntry}
+use Rattle.journal.specs.declared.entries.JournalEntry.{JournalEntry}
 use Rattle.mr_base.specs.declared.results.StatementResult.{StatementResult}
 use Rattle.sql_eval.proofs.OneColumnExecutionLemmas.{changes, held_id, is_change, new_held, no_change, nothing_else, still_held, tests_id}
 use Rattle.sql_eval.specs.OneColumnAgreement.{Holds, IsChange, pair}

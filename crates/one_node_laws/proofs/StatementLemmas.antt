@@ -9,9 +9,9 @@ use Rattle.mr_base.specs.declared.settings.Kind.TheVariants as kinds
 use Rattle.region_sql.specs.OneColumnForms.{IsOneColumnText}
 use Rattle.region_sql.specs.declared.one_column_forms.OneColumnStatement.{OneColumnStatement}
 use Rattle.region_sql.specs.declared.one_column_forms.OneColumnStatement.TheVariants.{Insert, SelectAll}
-use Rattle.scenario.specs.declared.entries.JournalEntry.{JournalEntry}
-use Rattle.scenario.specs.declared.events.Event.{Event}
-use Rattle.scenario.specs.declared.events.Event.TheVariants as events
+use Rattle.journal.specs.declared.entries.JournalEntry.{JournalEntry}
+use Rattle.journal.specs.declared.events.Event.{Event}
+use Rattle.journal.specs.declared.events.Event.TheVariants as events
 use Rattle.one_node_laws.specs.LinesRun.{LinesRun, NumberedEvent}
 use Rattle.one_node_laws.specs.Steps.{IsRunning, IsStepOf}
 use Rattle.one_node_laws.specs.Words.{Beginning}

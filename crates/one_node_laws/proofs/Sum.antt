@@ -14,7 +14,7 @@ use Rattle.one_node_laws.specs.Decided.{Decided, IsAmong, WasDecided, replay, th
 use Rattle.one_node_laws.specs.LinesRun.{LinesRun}
 use Rattle.one_node_laws.specs.Serial.{Acknowledged, Answers, Faulted, HasFaulted, WasAcknowledged}
 use Rattle.one_node_laws.specs.Words.{Beginning, ServedRead, WasServed, IsAnswered, attempts_of, begun_here, greatest_start, log_of, spans_served, the_range}
-use Rattle.scenario.specs.declared.entries.JournalEntry.{JournalEntry}
+use Rattle.journal.specs.declared.entries.JournalEntry.{JournalEntry}
 use Rattle.sql_eval.specs.OneColumnAgreement.{AgreesOn}
 use Rattle.sql_eval.specs.OneColumnExecution.{exec}
 

@@ -26,8 +26,8 @@ use Rattle.one_node_laws.specs.LinesRun.{LinesRun}
 use Rattle.one_node_laws.specs.Serial.{Acknowledged, Answers, Faulted, HasFaulted, WasAcknowledged}
 use Rattle.one_node_laws.specs.Steps.{IsStepOf}
 use Rattle.one_node_laws.specs.Words.{Beginning, HasPut, ServedRead, WasServed, attempts_of, greatest_start, log_of, the_range}
-use Rattle.scenario.specs.declared.entries.JournalEntry.{JournalEntry}
-use Rattle.scenario.specs.declared.entries.JournalEntry.TheVariants as entry
+use Rattle.journal.specs.declared.entries.JournalEntry.{JournalEntry}
+use Rattle.journal.specs.declared.entries.JournalEntry.TheVariants as entry
 use Rattle.mr_base.specs.declared.results.StatementResult.{StatementResult}
 use Rattle.sql_eval.specs.OneColumnAgreement.{AgreesOn}
 use Rattle.sql_eval.specs.OneColumnExecution.{Executed, exec}

@@ -17,9 +17,9 @@ use Rattle.one_node_laws.proofs.SumSteps.{right}
 use Rattle.one_node_laws.specs.Lawful.{IsPermitted}
 use Rattle.one_node_laws.specs.LinesRun.{LinesRun}
 use Rattle.one_node_laws.specs.Words.{Beginning, log_of, the_range}
-use Rattle.scenario.specs.declared.entries.JournalEntry.{JournalEntry}
-use Rattle.scenario.specs.declared.entries.JournalEntry.TheVariants as entry
-use Rattle.scenario.specs.declared.entries.Why.{Why}
+use Rattle.journal.specs.declared.entries.JournalEntry.{JournalEntry}
+use Rattle.journal.specs.declared.entries.JournalEntry.TheVariants as entry
+use Rattle.journal.specs.declared.entries.Why.{Why}
 
 -- a first lease
 pub sum_lease : (s : LinesRun) (journal : List JournalEntry) (index : ℕ) (lease : Lease) → Sum s journal → Sum s (entry.Append the_range index (log.Lease lease) ∷ journal)

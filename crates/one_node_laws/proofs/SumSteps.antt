@@ -23,9 +23,9 @@ use Rattle.one_node_laws.specs.Decided.{replay, those_below}
 use Rattle.one_node_laws.specs.Lawful.{IsPermitted}
 use Rattle.one_node_laws.specs.LinesRun.{LinesRun}
 use Rattle.one_node_laws.specs.Words.{Beginning, ServedRead, WasServed, attempts_of, begun_here, greatest_start, later_reading, log_of, the_range}
-use Rattle.scenario.specs.declared.entries.How.{How}
-use Rattle.scenario.specs.declared.entries.JournalEntry.{JournalEntry}
-use Rattle.scenario.specs.declared.entries.JournalEntry.TheVariants as entry
+use Rattle.journal.specs.declared.entries.How.{How}
+use Rattle.journal.specs.declared.entries.JournalEntry.{JournalEntry}
+use Rattle.journal.specs.declared.entries.JournalEntry.TheVariants as entry
 use Rattle.sql_eval.specs.OneColumnAgreement.{AgreesOn}
 
 none_is_some : {b : Beginning} → None ≡ Some b → ⊥

@@ -15,8 +15,8 @@ use Rattle.one_node_laws.specs.LinesRun.{LinesRun}
 use Rattle.one_node_laws.specs.Serial.{Acknowledged, WasAcknowledged}
 use Rattle.one_node_laws.specs.Visible.{Acked, BeganAfter, IsVisible, WasAcked, WasDecidedAt, WroteInto}
 use Rattle.one_node_laws.specs.Words.{Beginning, greatest_start}
-use Rattle.scenario.specs.declared.entries.JournalEntry.{JournalEntry}
-use Rattle.scenario.specs.declared.entries.JournalEntry.TheVariants as entry
+use Rattle.journal.specs.declared.entries.JournalEntry.{JournalEntry}
+use Rattle.journal.specs.declared.entries.JournalEntry.TheVariants as entry
 
 -- what was acknowledged has a statement
 acked_known : (s : LinesRun) (journal : List JournalEntry) → IsLawful s journal → (x : Acked) → WasAcked x journal → (y : Acknowledged) × WasAcknowledged s y journal × (y.ts ≡ x.ts)

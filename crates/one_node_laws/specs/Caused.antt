@@ -3,10 +3,10 @@ use Rattle.mr_base.specs.declared.ids.RangeId.{RangeId}
 use Rattle.mr_base.specs.declared.ids.TxnId.{TxnId}
 use Rattle.mr_base.specs.declared.spans.Span.{Span}
 use Rattle.region_sql.specs.declared.one_column_forms.OneColumnStatement.{OneColumnStatement}
-use Rattle.scenario.specs.declared.entries.How.{How}
-use Rattle.scenario.specs.declared.entries.JournalEntry.{JournalEntry}
-use Rattle.scenario.specs.declared.entries.JournalEntry.TheVariants as entry
-use Rattle.scenario.specs.declared.entries.Why.TheVariants as why
+use Rattle.journal.specs.declared.entries.How.{How}
+use Rattle.journal.specs.declared.entries.JournalEntry.{JournalEntry}
+use Rattle.journal.specs.declared.entries.JournalEntry.TheVariants as entry
+use Rattle.journal.specs.declared.entries.Why.TheVariants as why
 use Rattle.sql_eval.specs.OneColumnNextSpan.{AsksNext}
 use Rattle.one_node_laws.specs.LinesRun.{LinesRun}
 use Rattle.one_node_laws.specs.Served.{MayServe}

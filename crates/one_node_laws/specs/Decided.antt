@@ -9,8 +9,8 @@ use Rattle.range_log.specs.declared.entries.Entry.TheVariants as log
 use Rattle.range_log.specs.declared.entries.TxnState.TheVariants as records
 use Rattle.region_sql.specs.declared.one_column_forms.OneColumnStatement.{OneColumnStatement}
 use Rattle.row_locality.specs.OneColumnDatabases.{Database}
-use Rattle.scenario.specs.declared.entries.JournalEntry.{JournalEntry}
-use Rattle.scenario.specs.declared.entries.JournalEntry.TheVariants as entry
+use Rattle.journal.specs.declared.entries.JournalEntry.{JournalEntry}
+use Rattle.journal.specs.declared.entries.JournalEntry.TheVariants as entry
 use Rattle.sql_eval.specs.OneColumnExecution.{Executed, exec}
 use Rattle.one_node_laws.specs.Determined.{IsUncommitted}
 use Rattle.one_node_laws.specs.LinesRun.{LinesRun}

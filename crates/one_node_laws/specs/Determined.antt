@@ -9,8 +9,8 @@ use Rattle.range_log.specs.declared.entries.TxnState.TheVariants as records
 use Rattle.region_sql.specs.declared.one_column_forms.OneColumnStatement.{OneColumnStatement}
 use Rattle.region_sql.specs.declared.one_column_forms.OneColumnStatement.TheVariants.{Insert, SelectAll}
 use Rattle.row_locality.specs.OneColumnDatabases.{Database, IsValid}
-use Rattle.scenario.specs.declared.entries.JournalEntry.{JournalEntry}
-use Rattle.scenario.specs.declared.entries.JournalEntry.TheVariants as entry
+use Rattle.journal.specs.declared.entries.JournalEntry.{JournalEntry}
+use Rattle.journal.specs.declared.entries.JournalEntry.TheVariants as entry
 use Rattle.mr_base.specs.declared.results.StatementResult.{StatementResult}
 use Rattle.mr_base.specs.declared.results.Verb.{Verb}
 use Rattle.mr_base.specs.declared.results.Verb.TheVariants as verbs

@@ -10,8 +10,8 @@ use Rattle.range_log.specs.declared.entries.Entry.TheVariants as log
 use Rattle.range_log.specs.declared.entries.Lease.{Lease}
 use Rattle.range_log.specs.declared.entries.TxnState.{TxnState}
 use Rattle.region_sql.specs.declared.one_column_forms.OneColumnStatement.{OneColumnStatement}
-use Rattle.scenario.specs.declared.entries.JournalEntry.{JournalEntry}
-use Rattle.scenario.specs.declared.entries.JournalEntry.TheVariants as entry
+use Rattle.journal.specs.declared.entries.JournalEntry.{JournalEntry}
+use Rattle.journal.specs.declared.entries.JournalEntry.TheVariants as entry
 use Rattle.one_node_laws.specs.LinesRun.{LinesRun}
 use Rattle.one_node_laws.specs.Steps.{IsStepOf}
 use Rattle.one_node_laws.specs.Words.{Beginning, ServedRead, WasServed, HasPut, greatest_put, log_of}

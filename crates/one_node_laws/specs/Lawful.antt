@@ -1,5 +1,5 @@
 use Rattle.std.specs.Prelude.{List, [], ◌∷◌, ⊤}
-use Rattle.scenario.specs.declared.entries.JournalEntry.{JournalEntry}
+use Rattle.journal.specs.declared.entries.JournalEntry.{JournalEntry}
 use Rattle.one_node_laws.specs.Appended.{Appended}
 use Rattle.one_node_laws.specs.Begun.{Begun}
 use Rattle.one_node_laws.specs.Determined.{Determined}

@@ -1,7 +1,7 @@
 use Rattle.std.specs.Prelude.{◌↔◌, ℕ, List}
 use Rattle.mr_base.specs.Spans.{InSpan}
 use Rattle.mvcc_range.specs.Answer.{IsRow}
-use Rattle.scenario.specs.declared.entries.JournalEntry.{JournalEntry}
+use Rattle.journal.specs.declared.entries.JournalEntry.{JournalEntry}
 use Rattle.one_node_laws.specs.Decided.{IsHeld}
 use Rattle.one_node_laws.specs.Lawful.{IsLawful}
 use Rattle.one_node_laws.specs.LinesRun.{LinesRun}

@@ -1,8 +1,8 @@
 use Rattle.std.specs.Prelude.{◌≢◌, ℕ, ◌<◌, ⊤, List, [], ◌∷◌}
 use Rattle.mr_base.specs.declared.ids.TxnId.{TxnId}
 use Rattle.mr_base.specs.declared.settings.Settings.{Settings}
-use Rattle.scenario.specs.declared.events.Event.{Event}
-use Rattle.scenario.specs.declared.events.Event.TheVariants as events
+use Rattle.journal.specs.declared.events.Event.{Event}
+use Rattle.journal.specs.declared.events.Event.TheVariants as events
 
 -- A line of a scenario from `begin` on, with its number.
 pub record NumberedEvent : Type 0 where

@@ -4,10 +4,10 @@ use Rattle.mr_base.specs.declared.ids.TxnId.{TxnId}
 use Rattle.mr_base.specs.declared.settings.Kind.TheVariants as kinds
 use Rattle.range_log.specs.declared.entries.Entry.TheVariants as log
 use Rattle.region_sql.specs.declared.one_column_forms.OneColumnStatement.{OneColumnStatement}
-use Rattle.scenario.specs.declared.entries.JournalEntry.{JournalEntry}
-use Rattle.scenario.specs.declared.entries.JournalEntry.TheVariants as entry
-use Rattle.scenario.specs.declared.events.Event.{Event}
-use Rattle.scenario.specs.declared.events.Event.TheVariants as events
+use Rattle.journal.specs.declared.entries.JournalEntry.{JournalEntry}
+use Rattle.journal.specs.declared.entries.JournalEntry.TheVariants as entry
+use Rattle.journal.specs.declared.events.Event.{Event}
+use Rattle.journal.specs.declared.events.Event.TheVariants as events
 use Rattle.one_node_laws.specs.LinesRun.{LinesRun, NumberedEvent}
 use Rattle.one_node_laws.specs.Steps.{numbers, IsRunning, IsStepOf}
 use Rattle.one_node_laws.specs.Words.{Beginning, lines_of}

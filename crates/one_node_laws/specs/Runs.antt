@@ -1,9 +1,9 @@
 use Rattle.std.specs.Prelude.{◌≡◌, ◌⊎◌, ◌<◌, List, [], ◌∷◌, ◌++◌}
 use Rattle.mr_base.specs.declared.ids.TxnId.{TxnId}
-use Rattle.scenario.specs.Names.{NamesOnly}
-use Rattle.scenario.specs.declared.entries.JournalEntry.{JournalEntry}
-use Rattle.scenario.specs.declared.events.Event.{Event}
-use Rattle.scenario.specs.declared.events.Event.TheVariants as events
+use Rattle.journal.specs.Names.{NamesOnly}
+use Rattle.journal.specs.declared.entries.JournalEntry.{JournalEntry}
+use Rattle.journal.specs.declared.events.Event.{Event}
+use Rattle.journal.specs.declared.events.Event.TheVariants as events
 use Rattle.one_node_laws.specs.Answered.{AreAnswered}
 use Rattle.one_node_laws.specs.Caused.{IsCaused}
 use Rattle.one_node_laws.specs.Lawful.{IsLawful}

@@ -3,8 +3,8 @@ use Rattle.mr_base.specs.declared.states.SqlState.{SqlState}
 use Rattle.mr_base.specs.declared.timestamps.Ts.{Ts}
 use Rattle.region_sql.specs.declared.one_column_forms.OneColumnStatement.{OneColumnStatement}
 use Rattle.row_locality.specs.OneColumnDatabases.{IsValid}
-use Rattle.scenario.specs.declared.entries.JournalEntry.{JournalEntry}
-use Rattle.scenario.specs.declared.entries.JournalEntry.TheVariants as entry
+use Rattle.journal.specs.declared.entries.JournalEntry.{JournalEntry}
+use Rattle.journal.specs.declared.entries.JournalEntry.TheVariants as entry
 use Rattle.mr_base.specs.declared.results.StatementResult.{StatementResult}
 use Rattle.sql_eval.specs.OneColumnAgreement.{Holds}
 use Rattle.sql_eval.specs.OneColumnExecution.{Executed, exec}

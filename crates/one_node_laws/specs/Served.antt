@@ -11,10 +11,10 @@ use Rattle.range_log.specs.Facts.{lease_of, closed_of, first_entries}
 use Rattle.range_log.specs.declared.entries.Entry.{Entry}
 use Rattle.range_log.specs.declared.entries.Lease.{Lease}
 use Rattle.region_sql.specs.declared.one_column_forms.OneColumnStatement.{OneColumnStatement}
-use Rattle.scenario.specs.declared.entries.How.{How}
-use Rattle.scenario.specs.declared.entries.How.TheVariants as how
-use Rattle.scenario.specs.declared.entries.JournalEntry.{JournalEntry}
-use Rattle.scenario.specs.declared.entries.JournalEntry.TheVariants as entry
+use Rattle.journal.specs.declared.entries.How.{How}
+use Rattle.journal.specs.declared.entries.How.TheVariants as how
+use Rattle.journal.specs.declared.entries.JournalEntry.{JournalEntry}
+use Rattle.journal.specs.declared.entries.JournalEntry.TheVariants as entry
 use Rattle.sql_eval.specs.OneColumnNextSpan.{AsksNext}
 use Rattle.one_node_laws.specs.LinesRun.{LinesRun}
 use Rattle.one_node_laws.specs.Steps.{IsStepOf}

@@ -5,8 +5,8 @@ use Rattle.mr_base.specs.declared.timestamps.Ts.{Ts}
 use Rattle.range_log.specs.Facts.{Laid, HasIntent, HasRecord}
 use Rattle.range_log.specs.declared.entries.Entry.TheVariants as log
 use Rattle.range_log.specs.declared.entries.TxnState.TheVariants as records
-use Rattle.scenario.specs.declared.entries.JournalEntry.{JournalEntry}
-use Rattle.scenario.specs.declared.entries.JournalEntry.TheVariants as entry
+use Rattle.journal.specs.declared.entries.JournalEntry.{JournalEntry}
+use Rattle.journal.specs.declared.entries.JournalEntry.TheVariants as entry
 use Rattle.one_node_laws.specs.LinesRun.{LinesRun}
 use Rattle.one_node_laws.specs.Words.{Beginning, Began, IsAnswered, log_of, the_range}
 

@@ -1,6 +1,6 @@
 use Rattle.std.specs.Prelude.{◌≤◌, ⊤, List}
-use Rattle.scenario.specs.declared.entries.JournalEntry.{JournalEntry}
-use Rattle.scenario.specs.declared.entries.JournalEntry.TheVariants as entry
+use Rattle.journal.specs.declared.entries.JournalEntry.{JournalEntry}
+use Rattle.journal.specs.declared.entries.JournalEntry.TheVariants as entry
 use Rattle.one_node_laws.specs.Begun.{reading_at}
 use Rattle.one_node_laws.specs.LinesRun.{LinesRun}
 

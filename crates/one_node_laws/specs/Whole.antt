@@ -1,7 +1,7 @@
 use Rattle.std.specs.Prelude.{◌≡◌, ◌≢◌, ⊤, List, [], ◌∷◌}
-use Rattle.scenario.specs.declared.entries.JournalEntry.{JournalEntry}
-use Rattle.scenario.specs.declared.events.Event.{Event}
-use Rattle.scenario.specs.declared.events.Event.TheVariants as events
+use Rattle.journal.specs.declared.entries.JournalEntry.{JournalEntry}
+use Rattle.journal.specs.declared.events.Event.{Event}
+use Rattle.journal.specs.declared.events.Event.TheVariants as events
 use Rattle.one_node_laws.specs.LinesRun.{LinesRun, NumberedEvent}
 use Rattle.one_node_laws.specs.Steps.{numbers}
 use Rattle.one_node_laws.specs.Words.{Beginning, Began, lines_of, log_of, the_range}

@@ -11,8 +11,8 @@ use Rattle.mvcc_range.specs.Answer.{Read}
 use Rattle.range_log.specs.Facts.{first_entries}
 use Rattle.range_log.specs.declared.entries.Entry.{Entry}
 use Rattle.range_log.specs.declared.entries.Entry.TheVariants as log
-use Rattle.scenario.specs.declared.entries.JournalEntry.{JournalEntry}
-use Rattle.scenario.specs.declared.entries.JournalEntry.TheVariants as entry
+use Rattle.journal.specs.declared.entries.JournalEntry.{JournalEntry}
+use Rattle.journal.specs.declared.entries.JournalEntry.TheVariants as entry
 
 -- What is read off a journal, which is the list of its entries, the newest first.
 

@@ -7,3 +7,7 @@ use Rattle.region_sql.specs.declared.one_column_forms.OneColumnStatement.TheVari
 abbrev pub IsOneColumnText : List ℕ → OneColumnStatement → Type 0
 IsOneColumnText text SelectAll = text ≡ codes "SELECT * FROM t"
 IsOneColumnText text (Insert n) = (digits : List ℕ) × (text ≡ codes "INSERT INTO t (id) VALUES (" ++ (digits ++ codes ")")) × IsIntText digits n
+
+-- A list that the cluster of one table takes.
+abbrev pub IsTaken : List ℕ → Type 0
+IsTaken list = (s : OneColumnStatement) × IsOneColumnText list s

@@ -1,8 +1,8 @@
 -- What holds of the forms that the grammar gives.
 use Rattle.std.proofs.Common.{◌≡◌, ℕ, Bool, true, false, List, [], ◌∷◌, Some, None, refl}
 use Rattle.std.specs.Prelude.{codes, Option, if◌then◌else◌}
-use Rattle.scenario.specs.declared.events.Event.{Event}
-use Rattle.scenario.specs.declared.events.Event.TheVariants as events
+use Rattle.journal.specs.declared.events.Event.{Event}
+use Rattle.journal.specs.declared.events.Event.TheVariants as events
 use Rattle.scenario.specs.declared.forms.Form.{Form}
 use Rattle.scenario.specs.declared.forms.Form.TheVariants as forms
 use Rattle.scenario.specs.declared.forms.LineName.{LineName}

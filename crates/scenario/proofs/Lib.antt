@@ -1,11 +1,9 @@
 pub mod AfterLemmas
 pub mod FormHeads
-pub mod MoreNames
 pub mod NameLookups
 pub mod Names
-pub mod NamesOnly
-pub mod NodeLemmas
 pub mod NoLine
+pub mod NodeLemmas
 pub mod PlaceLemmas
 pub mod SoundLines
 pub mod Tells

@@ -1,8 +1,9 @@
 use Rattle.std.proofs.Common.{◌≡◌, ℕ, List, inl, inr, sym, subst}
 use Rattle.std.specs.Prelude.{Contains}
-use Rattle.scenario.specs.FirstPath.{HasNoLine, IsSkipped, IsNodeLine, IsTxnLine, IsTaken}
+use Rattle.region_sql.specs.OneColumnForms.{IsTaken}
+use Rattle.scenario.specs.FirstPath.{HasNoLine, IsSkipped, IsNodeLine, IsTxnLine}
 use Rattle.scenario.specs.FirstSeen.{Seen}
-use Rattle.scenario.specs.declared.events.Event.TheVariants as events
+use Rattle.journal.specs.declared.events.Event.TheVariants as events
 use Rattle.scenario.specs.declared.lines.Line.TheVariants as lines
 use Rattle.scenario.specs.declared.first_path.Expected.TheVariants as expected
 use Rattle.scenario.proofs.Names.{one_txn_line}

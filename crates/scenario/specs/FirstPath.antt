@@ -1,14 +1,13 @@
 use Rattle.std.specs.Prelude.{◌≡◌, ◌≢◌, ℕ, ◌<◌, ◌≤◌, ◌^◌, ◌⊎◌, List, [], ◌∷◌, ◌++◌, length, All, Contains, slice_index, codes, IsUtf8, Result, Ok, Err}
 use Rattle.std.specs.Str.Parse.{IsNumeral, digits_value}
-use Rattle.mr_base.specs.declared.settings.Settings.{Settings}
+use Rattle.journal.specs.Settings.{the_standard_settings}
 use Rattle.mr_base.specs.declared.settings.Kind.TheVariants as kinds
 use Rattle.mr_base.specs.declared.nodes.NodeInfo.{NodeInfo}
 use Rattle.mr_base.specs.declared.ids.NodeId.{NodeId}
 use Rattle.mr_base.specs.declared.ids.TxnId.{TxnId}
-use Rattle.region_sql.specs.OneColumnForms.{IsOneColumnText}
-use Rattle.region_sql.specs.declared.one_column_forms.OneColumnStatement.{OneColumnStatement}
-use Rattle.scenario.specs.declared.events.Event.{Event}
-use Rattle.scenario.specs.declared.events.Event.TheVariants as events
+use Rattle.region_sql.specs.OneColumnForms.{IsTaken}
+use Rattle.journal.specs.declared.events.Event.{Event}
+use Rattle.journal.specs.declared.events.Event.TheVariants as events
 use Rattle.scenario.specs.declared.lines.Line.{Line}
 use Rattle.scenario.specs.declared.lines.Line.TheVariants as lines
 use Rattle.scenario.specs.declared.lines.LineFault.{LineFault}
@@ -19,10 +18,6 @@ use Rattle.scenario.specs.FirstSeen.{Seen}
 -- An empty line or a comment.
 abbrev pub IsSkipped : List ℕ → Type 0
 IsSkipped line = (line ≡ []) ⊎ (slice_index line 0 ≡ 35)
-
--- The settings where a `cluster` line names none, in milliseconds.
-abbrev pub the_standard_settings : Settings
-the_standard_settings = record { max_offset = 500; lease = 6000; lag = 3000; lead = 800; expire = 5000 }
 
 abbrev pub n1 : NodeId
 n1 = record { 0 = 1 }
@@ -58,10 +53,6 @@ pub record IsTxnName (name : List ℕ) : Type 0 where
 -- txn NAME n1 now LIST
 abbrev pub IsTxnLine : (line name list : List ℕ) → Type 0
 IsTxnLine line name list = (line ≡ codes "txn " ++ (name ++ 32 ∷ (codes "n1 now " ++ list))) × IsTxnName name
-
--- A list that the cluster of one table takes.
-abbrev pub IsTaken : List ℕ → Type 0
-IsTaken list = (s : OneColumnStatement) × IsOneColumnText list s
 
 -- After the lines seen so far a line is read as this event, and these lines are seen then.
 abbrev pub ReadsEvent : Seen → List ℕ → Event → Seen → Type 0

@@ -4,7 +4,7 @@ use Rattle.std.specs.List.{starts_with}
 use Rattle.std.specs.Str.{is_utf8}
 use Rattle.mr_base.specs.declared.settings.Kind.{Kind}
 use Rattle.mr_base.specs.declared.settings.Kind.TheVariants as kinds
-use Rattle.scenario.specs.declared.events.Event.TheVariants as events
+use Rattle.journal.specs.declared.events.Event.TheVariants as events
 use Rattle.scenario.specs.declared.forms.Form.{Form}
 use Rattle.scenario.specs.declared.forms.Form.TheVariants as forms
 use Rattle.scenario.specs.declared.forms.LineName.{LineName}

@@ -9,8 +9,8 @@ use Rattle.mr_base.specs.declared.nodes.NodeInfo.{NodeInfo}
 use Rattle.mr_base.specs.declared.settings.Settings.{Settings}
 use Rattle.mr_base.specs.declared.settings.Kind.{Kind}
 use Rattle.mr_base.specs.declared.settings.Kind.TheVariants as kinds
-use Rattle.scenario.specs.declared.events.Event.{Event}
-use Rattle.scenario.specs.declared.events.Event.TheVariants as events
+use Rattle.journal.specs.declared.events.Event.{Event}
+use Rattle.journal.specs.declared.events.Event.TheVariants as events
 use Rattle.scenario.specs.declared.forms.Form.{Form}
 use Rattle.scenario.specs.declared.forms.Form.TheVariants as forms
 use Rattle.scenario.specs.declared.seen.Seen.{Seen}

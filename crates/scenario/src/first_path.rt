@@ -1,24 +1,23 @@
 //! Reading the lines of the first path: one node and one table.
 
 ghost use Rattle.std.specs.Prelude.{◌≡◌, ◌↔◌, [], ℕ, List, None, false, IfOk, IfErr, OnErr, IfSome, IfNone, IsTrue, Contains};
-ghost use Rattle.scenario.specs.FirstPath.{Answers, HasNoLine, Reads, IsSkipped, IsTxnName, IsTxnLine, IsClockText, IsNodeLine, IsRead, IsTaken, the_standard_settings};
+ghost use Rattle.scenario.specs.FirstPath.{Answers, HasNoLine, Reads, IsSkipped, IsTxnName, IsTxnLine, IsClockText, IsNodeLine, IsRead};
 ghost use Rattle.scenario.specs.NamePlaces.{place_of};
-ghost use Rattle.scenario.specs.Text.{name_of};
+ghost use Rattle.journal.specs.Names.{name_of};
+ghost use Rattle.region_sql.specs.OneColumnForms.{IsTaken};
 ghost use Rattle.scenario.specs.declared.first_path.Expected.TheVariants as expected;
 
-use crate::events::Event;
 use crate::lines::{Line, LineFault};
 use crate::txn_names::TxnNames;
 use crate::world::World;
-use mr_base::{
-    Bytes, CloneIn, Kind, Memory, NodeId, NodeInfo, Settings, TxnId, after_head, round_blank,
-};
+use journal::{Event, standard_settings};
+use mr_base::{Bytes, CloneIn, Kind, Memory, NodeId, NodeInfo, TxnId, after_head, round_blank};
 use region_sql::one_column_statement;
 use std::alloc::Global;
 use std::marker::Model;
 
 /// Which line comes next.
-#[derive(Clone, Copy, Debug, PartialEq, Eq)]
+#[derive(Clone, Copy)]
 pub enum Expected {
     Cluster,
     Node,
@@ -43,19 +42,6 @@ impl Model for FirstPath {
     ghost Value = { Seen };
 
     ghost view = { λ s. record { zones_only = s.zones_only; expected = s.expected; names = s.names } };
-}
-
-/// The settings where a `cluster` line names none.
-pub fn standard_settings() -> Settings
-    ensures { result ≡ the_standard_settings }
-{
-    Settings {
-        max_offset: 500,
-        lease: 6000,
-        lag: 3000,
-        lead: 800,
-        expire: 5000,
-    }
 }
 
 /// The physical clock that a text writes: milliseconds from 1 to below 2^53, in decimal digits without

@@ -1,10 +1,10 @@
 //! The lines of a scenario as their words say, before anything is judged.
 
-use crate::events::Event;
+use journal::Event;
 use mr_base::{Bytes, Kind, NodeId, NodeInfo, Settings};
 
 /// The first word of a line.
-#[derive(Clone, Copy, Debug, PartialEq, Eq)]
+#[derive(Clone, Copy)]
 pub(crate) enum LineName {
     Cluster,
     Node,

@@ -4,7 +4,7 @@ ghost use Rattle.std.specs.Prelude.{◌≡◌};
 ghost use Rattle.scenario.specs.Words.{Gives, first_word};
 ghost use Rattle.scenario.specs.Forms.{acquire_at, apply_at, close_at, cluster_at, deliver_at, drop_at, extend_at, form_at, form_of, kind_at, lease_at, line_name, node_line_at, setting_at, settle_at, show_at, show_fresh_at, show_node_at, show_range_at, sql_at, start_at, stop_at, tick_at, timeout_at, transfer_at, txn_at, within_at};
 
-use crate::events::Event;
+use journal::Event;
 use crate::forms::{Form, LineName};
 use crate::lines::LineFault;
 use crate::words::{

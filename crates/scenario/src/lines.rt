@@ -1,10 +1,10 @@
-//! What a line says, why a line is refused, and what a report shows.
+//! What a line says, and why a line is refused.
 
-use crate::events::Event;
+use journal::Event;
 use mr_base::{Bytes, Memory, NodeInfo, Settings};
 
 /// A line of a scenario.
-#[derive(Debug, PartialEq, Eq, Drop)]
+#[derive(Drop)]
 pub enum Line {
     /// An empty line or a comment.
     Skipped,
@@ -17,21 +17,10 @@ pub enum Line {
 }
 
 /// Why a line is refused: the fault S1 to S12, by its number, or want of memory.
-#[derive(Clone, Copy, Debug, PartialEq, Eq)]
+#[derive(Clone, Copy, Debug)]
 pub enum LineFault {
     S(u8),
     Memory,
-}
-
-/// What of a journal is shown.
-#[derive(Clone, Copy, Debug, PartialEq, Eq)]
-pub enum Mode {
-    /// Answers and the lines that a scenario asks for.
-    Answers,
-    /// Every entry.
-    Trace,
-    /// The counts at the end alone.
-    Summary,
 }
 
 impl From<Memory> for LineFault {

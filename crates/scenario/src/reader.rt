@@ -4,7 +4,7 @@ ghost use Rattle.std.specs.Prelude.{◌≡◌, ◌≤◌, ◌<◌, [], ℕ, Ok, 
 ghost use Rattle.scenario.specs.Judgements.{is_out_of_range, repeats_a_name};
 ghost use Rattle.scenario.specs.Lines.{fault_of, IsRead, is_skipped, nothing_seen, reads, said, told_by};
 ghost use Rattle.scenario.specs.Sound.{LinesAreSound};
-ghost use Rattle.scenario.specs.Text.{name_of};
+ghost use Rattle.journal.specs.Names.{name_of};
 
 use crate::forms::Form;
 use crate::grammar::{form_of, named};

@@ -13,7 +13,7 @@ use std::marker::Model;
 pub(crate) const CLOCK_LIMIT: u64 = 1 << 53;
 
 /// A node as the lines read so far leave it.
-#[derive(Clone, Copy, Debug, PartialEq, Eq)]
+#[derive(Clone, Copy)]
 pub(crate) struct SeenNode {
     /// The physical clock in milliseconds: that of the node's line and all ticks.
     pub clock: u64,

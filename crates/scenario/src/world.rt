@@ -49,7 +49,7 @@ pub trait World {
 }
 
 /// A world without messages, ranges and replicas, as there is none before `begin`.
-#[derive(Clone, Copy, Debug)]
+#[derive(Clone, Copy)]
 pub struct NoWorld;
 
 impl World for NoWorld {

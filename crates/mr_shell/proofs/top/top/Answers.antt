@@ -1,5 +1,5 @@
 use Rattle.std.proofs.Common.{◌≡◌, ◌∙◌, List, [], ap, subst, sym}
-use Rattle.scenario.specs.declared.entries.JournalEntry.{JournalEntry}
+use Rattle.journal.specs.declared.entries.JournalEntry.{JournalEntry}
 use Rattle.mr_shell.specs.Ends.{status_of}
 use Rattle.mr_shell.proofs.Headline.{answered_run, serial_run, visible_run}
 use Rattle.mr_shell.specs.Run.{EndsShort}

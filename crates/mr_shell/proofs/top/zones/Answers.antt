@@ -1,6 +1,6 @@
 use Rattle.std.proofs.Common.{refl}
 use Rattle.mr_shell.specs.Texts.{report_to}
-use Rattle.scenario.specs.declared.lines.Mode.TheVariants.{Answers}
+use Rattle.journal_text.specs.declared.modes.Mode.TheVariants.{Answers}
 use Rattle.mr_shell.proofs.ZoneStops.{ended, reported}
 use Rattle.mr_shell.proofs.top.zones.Goals as goal
 use Rattle.mr_shell.proofs.top.zones.Goals.{in-Ok, in-Err}

@@ -5,8 +5,8 @@ use Rattle.range_log.specs.declared.entries.Lease.{Lease}
 use Rattle.one_node_laws.specs.LinesRun.{with_line}
 use Rattle.one_node_laws.specs.Runs.{IsRun}
 use Rattle.one_node_laws.specs.Words.{greatest_start}
-use Rattle.scenario.specs.declared.entries.JournalEntry.{JournalEntry}
-use Rattle.scenario.specs.declared.events.Event.TheVariants as events
+use Rattle.journal.specs.declared.entries.JournalEntry.{JournalEntry}
+use Rattle.journal.specs.declared.events.Event.TheVariants as events
 use Rattle.one_node.proofs.BeginLemmas.{begun_journal, begin_run, begin_known}
 use Rattle.one_node.proofs.LastingLemmas.{lasts_from, shows_physical}
 use Rattle.one_node.specs.Clock.{reading_of}

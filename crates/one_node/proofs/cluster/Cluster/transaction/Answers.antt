@@ -11,8 +11,8 @@ use Rattle.row_locality.specs.OneColumnDatabases.{IsInt}
 use Rattle.one_node_laws.specs.LinesRun.{with_line}
 use Rattle.one_node_laws.specs.Runs.{IsRun}
 use Rattle.one_node_laws.specs.Words.{the_node}
-use Rattle.scenario.specs.declared.entries.JournalEntry.{JournalEntry}
-use Rattle.scenario.specs.declared.events.Event.TheVariants as events
+use Rattle.journal.specs.declared.entries.JournalEntry.{JournalEntry}
+use Rattle.journal.specs.declared.events.Event.TheVariants as events
 use Rattle.one_node.proofs.JournalLemmas.{journal_is}
 use Rattle.one_node.proofs.KnownLemmas.{IsOfInts, line_journal, line_known, with_floor}
 use Rattle.one_node.proofs.LastingLemmas.{lasts_on, served}
