@@ -17,8 +17,8 @@ use crate::report::{entries_after, write_entries};
 use crate::runner::Runner;
 use mr_base::Settings;
 use mr_io::Sink;
-use scenario::{Event, FirstPath, Journal, Line, LineFault, Mode, NoWorld, standard_settings};
 use one_node::Cluster;
+use scenario::{Event, FirstPath, Journal, Line, LineFault, Mode, NoWorld, standard_settings};
 use std::alloc::Global;
 
 /// The scenario as it was read so far, and the cluster that runs it.

@@ -2,10 +2,10 @@
 //! program.
 
 use super::*;
-use mr_base::{Bytes, Kind, ListOf, NodeId, SqlState, TxnId};
-use region_sql::{OneColumnStatement, one_column_statement};
 use journal::{Event, JournalEntry, StatementResult, Verb, standard_settings};
 use journal_text::{Mode, text_of};
+use mr_base::{Bytes, Kind, ListOf, NodeId, SqlState, TxnId};
+use region_sql::{OneColumnStatement, one_column_statement};
 use sql_eval::{OneColumnExecution, execute_one_column};
 use std::alloc::Global;
 use std::test::Fail;
