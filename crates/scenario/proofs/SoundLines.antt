@@ -22,7 +22,8 @@ use Rattle.scenario.specs.declared.lines.Line.{Line}
 use Rattle.scenario.specs.declared.lines.Line.TheVariants as lines
 use Rattle.scenario.specs.declared.seen.Seen.{Seen}
 use Rattle.scenario.specs.declared.seen_nodes.SeenNode.{SeenNode}
-use Rattle.scenario.specs.Forms.{form_of, line_name}
+use Rattle.scenario.specs.Forms.{form_of}
+use Rattle.scenario.specs.LineNames.{line_name}
 use Rattle.scenario.specs.Judgements.{awaits_nothing, begins_wrongly, has_long, has_region, is_long, is_long_kind, is_message, is_out_of_order, is_out_of_range, is_range, is_running, is_running_node, is_stopped, is_stopped_node, is_wrong_node, lacks_replica, meets_wrong_state, misses_message, misses_node, misses_range, names_nothing, repeats_a_name, waits_not}
 use Rattle.scenario.specs.Lines.{Told, after_event, after_form, counted, fault_of, line_of, named_form, read_form, reads, said, unless_fault, is_skipped, with_region}
 use Rattle.scenario.specs.NamePlaces.{place_of}

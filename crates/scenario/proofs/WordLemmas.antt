@@ -2,8 +2,6 @@
 use Rattle.std.proofs.Common.{◌≡◌, ℕ, ◌^◌, ◌<◌, ◌≤◌, true, false, List, length, get_or, refl, sym, arith}
 use Rattle.std.proofs.Math.Nat.{pow-le-pow_right}
 use Rattle.std.proofs.lemmas.List.Sums.{prefix_len_is}
-use Rattle.std.proofs.lemmas.Str.{is_utf8-from_IsUtf8, IsUtf8-from_is_utf8}
-use Rattle.std.specs.Str.{IsUtf8, is_utf8}
 use Rattle.scenario.specs.Words.{is_inside_word, word_len}
 
 pub run_is : (xs : List ℕ) (n : ℕ) → n ≤ length xs → ((k : ℕ) → k < n → is_inside_word (get_or xs k 0) ≡ true)
@@ -12,12 +10,6 @@ run_is xs n le each stop = sym (prefix_len_is is_inside_word xs n 0 le each stop
 
 pub power_below : (i : ℕ) → i ≤ 16 → 10 ^ i ≤ 10 ^ 16
 power_below i le = pow-le-pow_right {n = 10} (omega arith) le
-
-pub is_text : (bs : List ℕ) → IsUtf8 bs → true ≡ is_utf8 bs
-is_text bs h = sym (is_utf8-from_IsUtf8 bs h)
-
-pub is_no_text : (bs : List ℕ) → ¬ IsUtf8 bs → false ≡ is_utf8 bs
-is_no_text bs h = elim (is_utf8 bs) as (λ b. is_utf8 bs ≡ b → false ≡ b) [ true ↦ λ e. absurd (h (IsUtf8-from_is_utf8 bs e)) | false ↦ λ e. refl ] refl
 
 pub blank_stops : (b : ℕ) → b ≡ 32 → is_inside_word b ≡ false
 blank_stops b e = rw e refl

@@ -11,28 +11,6 @@ use Rattle.scenario.specs.declared.forms.LineName.{LineName}
 use Rattle.scenario.specs.declared.forms.LineName.TheVariants as names
 use Rattle.scenario.specs.Words.{◌>>=◌, after_word, text_at, word_at, whole, number_at, node_at, range_at, message_at, place_at, txn_name_at, or_all_at}
 
--- The names of lines.
-unfoldable pub line_name : List ℕ → Option LineName
-line_name word =
-    if bytes_eq word (codes "cluster") then Some names.Cluster
-    else if bytes_eq word (codes "node") then Some names.Node
-    else if bytes_eq word (codes "sql") then Some names.Sql
-    else if bytes_eq word (codes "begin") then Some names.Begin
-    else if bytes_eq word (codes "txn") then Some names.Txn
-    else if bytes_eq word (codes "tick") then Some names.Tick
-    else if bytes_eq word (codes "deliver") then Some names.Deliver
-    else if bytes_eq word (codes "drop") then Some names.Drop
-    else if bytes_eq word (codes "apply") then Some names.Apply
-    else if bytes_eq word (codes "drain") then Some names.Drain
-    else if bytes_eq word (codes "settle") then Some names.Settle
-    else if bytes_eq word (codes "lease") then Some names.Lease
-    else if bytes_eq word (codes "close") then Some names.Close
-    else if bytes_eq word (codes "stop") then Some names.Stop
-    else if bytes_eq word (codes "start") then Some names.Start
-    else if bytes_eq word (codes "show") then Some names.Show
-    else if bytes_eq word (codes "timeout") then Some names.Timeout
-    else None
-
 -- A setting by its name and a number, or its standard value where the name doesn't follow.
 unfoldable pub setting_at : List ℕ → ℕ → List ℕ → Option (ℕ × List ℕ)
 setting_at name standard [] = Some (standard, [])

@@ -2,6 +2,7 @@ pub mod FirstPath
 pub mod FirstSeen
 pub mod Forms
 pub mod Judgements
+pub mod LineNames
 pub mod Lines
 pub mod NamePlaces
 pub mod SeenNodes

@@ -14,7 +14,8 @@ use Rattle.scenario.specs.declared.lines.Line.{Line}
 use Rattle.scenario.specs.declared.lines.Line.TheVariants as lines
 use Rattle.scenario.specs.declared.seen.Seen.{Seen}
 use Rattle.scenario.specs.declared.seen_nodes.SeenNode.{SeenNode}
-use Rattle.scenario.specs.Forms.{line_name, form_of}
+use Rattle.scenario.specs.Forms.{form_of}
+use Rattle.scenario.specs.LineNames.{line_name}
 use Rattle.scenario.specs.Judgements.{awaits_nothing, begins_wrongly, has_region, is_out_of_order, is_out_of_range, meets_wrong_state, misses_message, names_nothing, repeats_a_name, tick_in}
 use Rattle.scenario.specs.NamePlaces.{place_of}
 use Rattle.scenario.specs.SeenNodes.{restarted, ticked_by, with_node}

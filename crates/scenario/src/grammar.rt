@@ -1,47 +1,29 @@
 //! The forms of lines. Each reader takes what follows the words before, and answers what the words say.
 
 ghost use Rattle.std.specs.Prelude.{◌≡◌};
+ghost use Rattle.scenario.specs.LineNames.{line_name};
 ghost use Rattle.scenario.specs.Words.{Gives, first_word};
-ghost use Rattle.scenario.specs.Forms.{acquire_at, apply_at, close_at, cluster_at, deliver_at, drop_at, extend_at, form_at, form_of, kind_at, lease_at, line_name, node_line_at, setting_at, settle_at, show_at, show_fresh_at, show_node_at, show_range_at, sql_at, start_at, stop_at, tick_at, timeout_at, transfer_at, txn_at, within_at};
+ghost use Rattle.scenario.specs.Forms.{acquire_at, apply_at, close_at, cluster_at, deliver_at, drop_at, extend_at, form_at, form_of, kind_at, lease_at, node_line_at, setting_at, settle_at, show_at, show_fresh_at, show_node_at, show_range_at, sql_at, start_at, stop_at, tick_at, timeout_at, transfer_at, txn_at, within_at};
 
-use journal::Event;
-use crate::forms::{Form, LineName};
+use crate::forms::{Form, LINE_NAMES, LineName};
 use crate::lines::LineFault;
 use crate::words::{
-    NO_FORM, is_utf8, message, node, node_or_all, number, place, range, range_or_all, split_word,
-    text, txn_name, whole, word,
+    NO_FORM, message, node, node_or_all, number, place, range, range_or_all, split_word, text,
+    txn_name, whole, word,
 };
-use mr_base::{Bytes, Kind, NodeInfo, Settings};
+use journal::Event;
+use mr_base::{Bytes, Kind, NodeInfo, Settings, is_utf8};
 use std::alloc::Global;
 
-/// The name of a line.
-#[tactic(auto, unfolding(crate::specs::Forms::line_name))]
+/// The name of the lines that begin with a word.
+#[tactic(auto, unfolding(crate::specs::LineNames::line_name))]
 fn line_name(word: &[u8]) -> Option<LineName>
     ensures { result ≡ line_name word.now }
 {
-    match word {
-        b"cluster" => Some(LineName::Cluster),
-        b"node" => Some(LineName::Node),
-        b"sql" => Some(LineName::Sql),
-        b"begin" => Some(LineName::Begin),
-        b"txn" => Some(LineName::Txn),
-        b"tick" => Some(LineName::Tick),
-        b"deliver" => Some(LineName::Deliver),
-        b"drop" => Some(LineName::Drop),
-        b"apply" => Some(LineName::Apply),
-        b"drain" => Some(LineName::Drain),
-        b"settle" => Some(LineName::Settle),
-        b"lease" => Some(LineName::Lease),
-        b"close" => Some(LineName::Close),
-        b"stop" => Some(LineName::Stop),
-        b"start" => Some(LineName::Start),
-        b"show" => Some(LineName::Show),
-        b"timeout" => Some(LineName::Timeout),
-        _ => None,
-    }
+    LINE_NAMES.iter().copied().find(|name| word == name.word())
 }
 
-/// The name of a line and what follows it.
+/// The name of a line.
 pub(crate) fn named(line: &[u8]) -> Option<LineName>
     ensures { result ≡ line_name (first_word line.now) }
 {

@@ -4,11 +4,11 @@ ghost use Rattle.std.specs.Prelude.{◌≡◌, true, false};
 ghost use Rattle.std.specs.List.{list_any};
 ghost use Rattle.scenario.specs.Judgements.{awaits_nothing, begins_wrongly, event_meets_state, has_long, has_region, is_begin, is_cluster, is_long, is_long_kind, is_message, is_out_of_order, is_out_of_range, is_range, is_replica, is_running, is_stopped, is_wrong_node, is_wrong_tick, meets_wrong_state, misses_message, misses_node, misses_range, names_nothing, node_in, range_in, repeats_a_name, tick_in, waits};
 
-use journal::Event;
 use crate::forms::Form;
 use crate::seen::Seen;
 use crate::seen_nodes::{CLOCK_LIMIT, SeenNodes};
 use crate::world::World;
+use journal::Event;
 use mr_base::{Bytes, Kind, MsgId, NodeId, NodeInfo, RangeId, Settings, TxnId};
 
 /// The longest duration in milliseconds.

@@ -151,10 +151,8 @@ impl Scenario {
         ensures found { IfSome result (λ t. IsRead self.now t × (name_of self.now.names t ≡ name.now)) }
         ensures none { IfNone result (¬ Contains self.now.names name.now) }
     {
-        match self.seen.names.place(name) {
-            None => None,
-            Some(place) => Some(TxnId(place)),
-        }
+        let place = self.seen.names.place(name)?;
+        Some(TxnId(place))
     }
 
     /// Reads the next line, which comes without its end. The fault is the first that applies, in the

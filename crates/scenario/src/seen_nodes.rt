@@ -36,16 +36,6 @@ impl Model for SeenNodes {
     ghost view = { λ n. n.nodes.items };
 }
 
-/// The node of a number.
-fn find_node(nodes: &[SeenNode], n: NodeId) -> Option<SeenNode>
-    ensures { result ≡ find_node nodes.now n }
-{
-    if n.0 == 0 {
-        return None;
-    }
-    nodes.get(n.0 as usize - 1).copied()
-}
-
 /// Whether these milliseconds would move the clock past the limit.
 fn passes(ms: u64, node: SeenNode) -> bool
     ensures { result ≡ passes ms node }
@@ -58,19 +48,6 @@ fn some_clock_passes(nodes: &[SeenNode], ms: u64) -> bool
     ensures { result ≡ list_any (passes ms) nodes.now }
 {
     nodes.iter().any(|node| passes(ms, *node))
-}
-
-/// Whether these milliseconds would move the clock of the node, or of some node, past the limit.
-fn clocks_pass(nodes: &[SeenNode], n: Option<NodeId>, ms: u64) -> bool
-    ensures { result ≡ clocks_pass nodes.now n ms }
-{
-    match n {
-        None => some_clock_passes(nodes, ms),
-        Some(n) => match find_node(nodes, n) {
-            None => false,
-            Some(node) => passes(ms, node),
-        },
-    }
 }
 
 /// Moves a clock.
@@ -89,40 +66,6 @@ fn tick_all(nodes: &mut [SeenNode], ms: u64)
     for node in nodes.iter_mut() {
         tick(node, ms);
     }
-}
-
-/// Moves the clock of a node.
-fn tick_one(nodes: &mut [SeenNode], n: NodeId, ms: u64)
-    requires { clocks_pass nodes.old (Some n) ms ≡ false }
-    ensures { nodes.new ≡ with_node (ticked ms) nodes.old n }
-{
-    let Some(mut node) = find_node(nodes, n) else {
-        return;
-    };
-    tick(&mut node, ms);
-    nodes[n.0 as usize - 1] = node;
-}
-
-/// Moves the clock of the node, or all clocks.
-fn tick_nodes(nodes: &mut [SeenNode], n: Option<NodeId>, ms: u64)
-    requires { clocks_pass nodes.old n ms ≡ false }
-    ensures { nodes.new ≡ ticked_by nodes.old n ms }
-{
-    match n {
-        None => tick_all(nodes, ms),
-        Some(n) => tick_one(nodes, n, ms),
-    }
-}
-
-/// Stops a node, or starts it.
-fn set_running(nodes: &mut [SeenNode], n: NodeId, running: bool)
-    ensures { nodes.new ≡ with_node (restarted running) nodes.old n }
-{
-    let Some(mut node) = find_node(nodes, n) else {
-        return;
-    };
-    node.running = running;
-    nodes[n.0 as usize - 1] = node;
 }
 
 impl SeenNodes {
@@ -146,14 +89,23 @@ impl SeenNodes {
     pub(crate) fn find(&self, n: NodeId) -> Option<SeenNode>
         ensures { result ≡ find_node self.now n }
     {
-        find_node(self.nodes.as_slice(), n)
+        if n.0 == 0 {
+            return None;
+        }
+        self.nodes.get(n.0 as usize - 1).copied()
     }
 
     /// Whether these milliseconds would move the clock of the node, or of some node, past the limit.
     pub(crate) fn clocks_pass(&self, n: Option<NodeId>, ms: u64) -> bool
         ensures { result ≡ clocks_pass self.now n ms }
     {
-        clocks_pass(self.nodes.as_slice(), n, ms)
+        match n {
+            None => some_clock_passes(self.nodes.as_slice(), ms),
+            Some(n) => match self.find(n) {
+                None => false,
+                Some(node) => passes(ms, node),
+            },
+        }
     }
 
     /// Adds the next node.
@@ -172,18 +124,37 @@ impl SeenNodes {
         let _ = self.nodes.pop();
     }
 
+    /// Moves the clock of a node.
+    fn tick_one(&mut self, n: NodeId, ms: u64)
+        requires { clocks_pass self.old (Some n) ms ≡ false }
+        ensures { self.new ≡ with_node (ticked ms) self.old n }
+    {
+        let Some(mut node) = self.find(n) else {
+            return;
+        };
+        tick(&mut node, ms);
+        self.nodes[n.0 as usize - 1] = node;
+    }
+
     /// Moves the clock of the node, or all clocks.
     pub(crate) fn tick(&mut self, n: Option<NodeId>, ms: u64)
         requires { clocks_pass self.old n ms ≡ false }
         ensures { self.new ≡ ticked_by self.old n ms }
     {
-        tick_nodes(self.nodes.as_mut_slice(), n, ms);
+        match n {
+            None => tick_all(self.nodes.as_mut_slice(), ms),
+            Some(n) => self.tick_one(n, ms),
+        }
     }
 
     /// Stops a node, or starts it.
     pub(crate) fn set_running(&mut self, n: NodeId, running: bool)
         ensures { self.new ≡ with_node (restarted running) self.old n }
     {
-        set_running(self.nodes.as_mut_slice(), n, running);
+        let Some(mut node) = self.find(n) else {
+            return;
+        };
+        node.running = running;
+        self.nodes[n.0 as usize - 1] = node;
     }
 }

@@ -5,12 +5,12 @@ ghost use Rattle.scenario.specs.Judgements.{is_out_of_range, is_wrong_tick, repe
 ghost use Rattle.scenario.specs.NamePlaces.{place_of};
 ghost use Rattle.scenario.specs.Lines.{after_event, after_form, line_of, with_new_node, with_region};
 
-use journal::Event;
 use crate::forms::Form;
 use crate::judgements::{has_region, tick_in};
 use crate::lines::Line;
 use crate::seen::Seen;
 use crate::seen_nodes::SeenNode;
+use journal::Event;
 use mr_base::{Bytes, CloneIn, Kind, ListOf, Memory, NodeId, NodeInfo, TxnId};
 use std::alloc::Global;
 

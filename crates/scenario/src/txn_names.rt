@@ -57,10 +57,8 @@ impl TxnNames {
     pub(crate) fn place(&self, name: &[u8]) -> Option<u32>
         ensures { result ≡ place_of self.now name.now }
     {
-        match self.places.place(name) {
-            None => None,
-            Some(place) => u32::try_from(place).ok(),
-        }
+        let place = self.places.place(name)?;
+        u32::try_from(place).ok()
     }
 
     /// Adds a name that isn't there, with its place. The names are unchanged after want of memory.

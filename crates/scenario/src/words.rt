@@ -2,7 +2,6 @@
 
 ghost use Rattle.std.specs.Prelude.{◌≡◌, ◌≤◌, ◌<◌, length, min, true};
 ghost use Rattle.std.specs.Char.{is_ascii_digit};
-ghost use Rattle.std.specs.Str.{is_utf8};
 ghost use Rattle.std.specs.List.{list_all};
 ghost use Rattle.scenario.specs.Words.{Gives, after_word, first_word, is_name, is_name_byte, is_number, lettered_at, lettered_in, message_at, name_at, no_id, node_at, number_at, number_in, or_all_at, place_at, range_at, text_at, txn_name_at, value_of, whole, word_at, word_len};
 
@@ -18,17 +17,6 @@ const MOST_DIGITS: usize = 16;
 
 /// The longest name.
 const LONGEST_NAME: usize = 32;
-
-/// Whether the bytes are UTF-8.
-#[tactic(auto, using(crate::proofs::WordLemmas::is_text, crate::proofs::WordLemmas::is_no_text))]
-pub(crate) fn is_utf8(bytes: &[u8]) -> bool
-    ensures { result ≡ is_utf8 bytes.now }
-{
-    match std::str::from_utf8(bytes) {
-        Ok(_) => true,
-        Err(_) => false,
-    }
-}
 
 /// How many bytes stand before the first blank.
 #[tactic(auto, using(crate::proofs::WordLemmas::run_is))]
