@@ -3,6 +3,7 @@ use Rattle.std.specs.Prelude.{ℕ, ◌+◌, ◌/◌, ◌%◌, List, [], ◌∷�
 use Rattle.std.specs.List.{flat_map}
 use Rattle.mr_base.specs.Ids.{node_text, range_text, attempt_text}
 use Rattle.mr_base.specs.Timestamps.{ts_text}
+use Rattle.mr_base.specs.declared.ids.AttemptId.{AttemptId}
 use Rattle.mr_base.specs.declared.ids.RangeId.{RangeId}
 use Rattle.mr_base.specs.declared.messages.Fate.{Fate}
 use Rattle.mr_base.specs.declared.messages.Fate.TheVariants as fate
@@ -55,9 +56,13 @@ abbrev pub fates_text : List Known → List ℕ
 fates_text [] = codes "-"
 fates_text (known ∷ fates) = joined known_text (codes ",") (known ∷ fates)
 
+-- A version within the uncertainty limit.
+abbrev pub uncertain_text : (key : List ℕ) → Ts → List ℕ
+uncertain_text key ts = codes "uncertain " ++ hex_text key ++ codes " " ++ ts_text ts
+
 -- Why a transaction reads again.
 abbrev pub cause_text : RetryCause → List ℕ
-cause_text (cause.Uncertain key ts) = codes "uncertain " ++ hex_text key ++ codes " " ++ ts_text ts
+cause_text (cause.Uncertain key ts) = uncertain_text key ts
 cause_text (cause.NewerWrite ts) = codes "newer " ++ ts_text ts
 cause_text (cause.Pushed ts) = codes "pushed " ++ ts_text ts
 
@@ -77,11 +82,24 @@ state_text (state.Pending ts) = codes "pending " ++ ts_text ts
 state_text (state.Committed ts) = codes "committed " ++ ts_text ts
 state_text (state.Aborted by) = codes "aborted " ++ attempt_text by
 
+-- The entries of an intent, of its resolving, of a record, and of a pair that a range holds from its making on.
+abbrev pub put_entry_text : AttemptId → Ts → RangeId → Ts → (key : List ℕ) → Option (List ℕ) → List ℕ
+put_entry_text attempt start anchor ts key value = codes "put " ++ attempt_text attempt ++ codes " " ++ origin_text start anchor ++ codes " " ++ write_text ts key value
+
+abbrev pub resolve_entry_text : AttemptId → (key : List ℕ) → Fate → List ℕ
+resolve_entry_text attempt key fate = codes "resolve " ++ attempt_text attempt ++ codes " key " ++ hex_text key ++ codes " " ++ fate_text fate
+
+abbrev pub record_text : AttemptId → TxnState → List ℕ
+record_text attempt state = codes "record " ++ attempt_text attempt ++ codes " " ++ state_text state
+
+abbrev pub load_text : Ts → (key value : List ℕ) → List ℕ
+load_text ts key value = codes "load " ++ ts_text ts ++ codes " key " ++ hex_text key ++ codes " value " ++ hex_text value
+
 -- An entry of a range's log.
 abbrev pub log_entry_text : Entry → List ℕ
 log_entry_text (log.Lease lease) = log_lease_text lease
-log_entry_text (log.Put attempt start anchor ts key value) = codes "put " ++ attempt_text attempt ++ codes " " ++ origin_text start anchor ++ codes " " ++ write_text ts key value
-log_entry_text (log.Resolve attempt key fate) = codes "resolve " ++ attempt_text attempt ++ codes " key " ++ hex_text key ++ codes " " ++ fate_text fate
-log_entry_text (log.State attempt state) = codes "record " ++ attempt_text attempt ++ codes " " ++ state_text state
+log_entry_text (log.Put attempt start anchor ts key value) = put_entry_text attempt start anchor ts key value
+log_entry_text (log.Resolve attempt key fate) = resolve_entry_text attempt key fate
+log_entry_text (log.State attempt state) = record_text attempt state
 log_entry_text (log.Close ts) = codes "close " ++ ts_text ts
-log_entry_text (log.Load ts key value) = codes "load " ++ ts_text ts ++ codes " key " ++ hex_text key ++ codes " value " ++ hex_text value
+log_entry_text (log.Load ts key value) = load_text ts key value

@@ -10,7 +10,7 @@ use Rattle.mr_base.specs.declared.ids.NodeId.{NodeId}
 use Rattle.mr_base.specs.declared.ids.RangeId.{RangeId}
 use Rattle.mr_base.specs.declared.timestamps.Reading.{Reading}
 use Rattle.mr_base.specs.declared.timestamps.Ts.{Ts}
-use Rattle.journal_text.specs.Text.{line_end, joined, nodes_text, number_or_dash, reading_text}
+use Rattle.journal_text.specs.Text.{line_end, joined, no_quorum_text, number_or_dash, reading_text}
 use Rattle.journal.specs.declared.entries.LeaseWhy.{LeaseWhy}
 use Rattle.journal.specs.declared.entries.LeaseWhy.TheVariants as why
 use Rattle.journal.specs.declared.entries.SqlWhy.{SqlWhy}
@@ -19,6 +19,10 @@ use Rattle.journal.specs.declared.entries.SqlWhy.TheVariants as sql
 -- A lease: its sequence, holder and expiration.
 abbrev pub holding_text : (seq : ℕ) → NodeId → (expiration : ℕ) → List ℕ
 holding_text seq holder expiration = decimal seq ++ codes " " ++ node_text holder ++ codes " " ++ decimal expiration
+
+-- The lease is another's.
+abbrev pub not_holder_text : (seq : ℕ) → NodeId → (expiration : ℕ) → List ℕ
+not_holder_text seq holder expiration = codes "notholder " ++ holding_text seq holder expiration
 
 -- A range has a new lease.
 abbrev pub lease_text : RangeId → (seq : ℕ) → NodeId → (expiration : ℕ) → List ℕ
@@ -29,7 +33,7 @@ abbrev pub lease_why_text : LeaseWhy → List ℕ
 lease_why_text why.NotVoter = codes "notvoter"
 lease_why_text (why.Live expiration) = codes "live " ++ decimal expiration
 lease_why_text why.NotHolder = codes "notholder"
-lease_why_text (why.NoQuorum down) = codes "noquorum " ++ nodes_text down
+lease_why_text (why.NoQuorum down) = no_quorum_text down
 
 abbrev pub lease_refusal_text : RangeId → LeaseWhy → List ℕ
 lease_refusal_text r why = codes "lease " ++ range_text r ++ codes " refused " ++ lease_why_text why ++ line_end

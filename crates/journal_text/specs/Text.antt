@@ -50,3 +50,7 @@ members s = members_to 64 s
 -- The nodes of a set, in number order, with commas between them.
 abbrev pub nodes_text : NodeSet → List ℕ
 nodes_text s = joined node_text (codes ",") (members s)
+
+-- The nodes that are missing for a quorum.
+abbrev pub no_quorum_text : NodeSet → List ℕ
+no_quorum_text down = codes "noquorum " ++ nodes_text down

@@ -4,8 +4,8 @@ ghost use Rattle.std.specs.Prelude.{◌≡◌, ◌++◌, OnOk};
 ghost use Rattle.journal_text.specs.AnswerText.{ack_text, fault_text, refusal_text, lost_text, why_text};
 
 use crate::buffer::{Part, TextBuffer};
-use journal::Why;
 use crate::parts::{add_name, add_nodes};
+use journal::Why;
 use mr_base::{Bytes, Memory, Row, SqlState, StatementResult, Ts, TxnId, Verb};
 
 impl Part for Verb {

@@ -1,10 +1,10 @@
 //! Parts of the trace that tell of keys, fates and log entries.
 
 ghost use Rattle.std.specs.Prelude.{◌≡◌, ◌<◌, ◌++◌, OnOk};
-ghost use Rattle.journal_text.specs.LogText.{hex_digit, value_text, fate_parts, fate_text, fates_text, cause_text, origin_text, write_text, log_lease_text, state_text, log_entry_text};
+ghost use Rattle.journal_text.specs.LogText.{cause_text, fate_parts, fate_text, fates_text, hex_digit, load_text, log_lease_text, origin_text, put_entry_text, record_text, resolve_entry_text, state_text, uncertain_text, value_text, write_text};
 
 use crate::buffer::{Part, TextBuffer};
-use mr_base::{Bytes, Fate, Known, Memory, RangeId, Span, Ts};
+use mr_base::{AttemptId, Bytes, Fate, Known, Memory, RangeId, Span, Ts};
 use range_log::{Entry, Lease, RetryCause, TxnState};
 
 /// The digit of a number below 16.
@@ -104,16 +104,21 @@ pub(crate) fn add_fates(line: &mut TextBuffer, fates: &[Known]) -> Result<(), Me
     }
 }
 
+/// Adds a version within the uncertainty limit.
+pub(crate) fn add_uncertain(line: &mut TextBuffer, key: &Bytes, ts: Ts) -> Result<(), Memory>
+    ensures { OnOk result (line.new ≡ line.old ++ uncertain_text key.now ts) }
+{
+    line.add_words("uncertain ")?;
+    key.add_to(line)?;
+    line.add_field(" ", &ts)
+}
+
 /// Adds why a transaction reads again.
 pub(crate) fn add_cause(line: &mut TextBuffer, cause: &RetryCause) -> Result<(), Memory>
     ensures { OnOk result (line.new ≡ line.old ++ cause_text cause.now) }
 {
     match cause {
-        RetryCause::Uncertain { key, ts } => {
-            line.add_words("uncertain ")?;
-            key.add_to(line)?;
-            line.add_field(" ", ts)
-        }
+        RetryCause::Uncertain { key, ts } => add_uncertain(line, key, *ts),
         RetryCause::NewerWrite { ts } => line.add_field("newer ", ts),
         RetryCause::Pushed { ts } => line.add_field("pushed ", ts),
     }
@@ -165,6 +170,61 @@ fn add_state(line: &mut TextBuffer, state: TxnState) -> Result<(), Memory>
     }
 }
 
+/// Adds the entry of an intent.
+fn add_put_entry(
+    line: &mut TextBuffer,
+    attempt: AttemptId,
+    start: Ts,
+    anchor: RangeId,
+    ts: Ts,
+    key: &Bytes,
+    value: &Option<Bytes>,
+) -> Result<(), Memory>
+    ensures { OnOk result (line.new ≡ line.old ++ put_entry_text attempt start anchor ts key.now value.now) }
+{
+    line.add_field("put ", &attempt)?;
+    line.add_words(" ")?;
+    add_origin(line, start, anchor)?;
+    line.add_words(" ")?;
+    add_write(line, ts, key, value)
+}
+
+/// Adds the entry by which an intent is resolved.
+fn add_resolve_entry(
+    line: &mut TextBuffer,
+    attempt: AttemptId,
+    key: &Bytes,
+    fate: Fate,
+) -> Result<(), Memory>
+    ensures { OnOk result (line.new ≡ line.old ++ resolve_entry_text attempt key.now fate) }
+{
+    line.add_field("resolve ", &attempt)?;
+    line.add_words(" key ")?;
+    key.add_to(line)?;
+    line.add_words(" ")?;
+    add_fate(line, fate)
+}
+
+/// Adds the record of an attempt.
+fn add_record(line: &mut TextBuffer, attempt: AttemptId, state: TxnState) -> Result<(), Memory>
+    ensures { OnOk result (line.new ≡ line.old ++ record_text attempt state) }
+{
+    line.add_field("record ", &attempt)?;
+    line.add_words(" ")?;
+    add_state(line, state)
+}
+
+/// Adds a pair that a range holds from its making on.
+fn add_load(line: &mut TextBuffer, ts: Ts, key: &Bytes, value: &Bytes) -> Result<(), Memory>
+    ensures { OnOk result (line.new ≡ line.old ++ load_text ts key.now value.now) }
+{
+    line.add_field("load ", &ts)?;
+    line.add_words(" key ")?;
+    key.add_to(line)?;
+    line.add_words(" value ")?;
+    value.add_to(line)
+}
+
 /// An entry of a range's log.
 impl Part for Entry {
     ghost use Rattle.journal_text.specs.LogText.{log_entry_text};
@@ -181,33 +241,11 @@ impl Part for Entry {
                 ts,
                 key,
                 value,
-            } => {
-                line.add_field("put ", attempt)?;
-                line.add_words(" ")?;
-                add_origin(line, *start, *anchor)?;
-                line.add_words(" ")?;
-                add_write(line, *ts, key, value)
-            }
-            Entry::Resolve { attempt, key, fate } => {
-                line.add_field("resolve ", attempt)?;
-                line.add_words(" key ")?;
-                key.add_to(line)?;
-                line.add_words(" ")?;
-                add_fate(line, *fate)
-            }
-            Entry::State { attempt, state } => {
-                line.add_field("record ", attempt)?;
-                line.add_words(" ")?;
-                add_state(line, *state)
-            }
+            } => add_put_entry(line, *attempt, *start, *anchor, *ts, key, value),
+            Entry::Resolve { attempt, key, fate } => add_resolve_entry(line, *attempt, key, *fate),
+            Entry::State { attempt, state } => add_record(line, *attempt, *state),
             Entry::Close(ts) => line.add_field("close ", ts),
-            Entry::Load { ts, key, value } => {
-                line.add_field("load ", ts)?;
-                line.add_words(" key ")?;
-                key.add_to(line)?;
-                line.add_words(" value ")?;
-                value.add_to(line)
-            }
+            Entry::Load { ts, key, value } => add_load(line, *ts, key, value),
         }
     }
 }

@@ -2,7 +2,7 @@
 
 ghost use Rattle.std.specs.Prelude.{◌≡◌, ◌++◌, IfOk, OnOk};
 ghost use Rattle.journal.specs.Names.{name_of};
-ghost use Rattle.journal_text.specs.Text.{quoted, members, nodes_text, number_or_dash, reading_text};
+ghost use Rattle.journal_text.specs.Text.{members, no_quorum_text, nodes_text, number_or_dash, quoted, reading_text};
 
 use crate::buffer::{Part, TextBuffer};
 use mr_base::{Bytes, Datum, Memory, MsgId, NodeId, NodeSet, Reading, TxnId};
@@ -79,6 +79,14 @@ pub(crate) fn add_nodes(line: &mut TextBuffer, set: NodeSet) -> Result<(), Memor
 {
     let nodes = members(line.alloc(), set)?;
     line.add_joined(",", nodes.as_slice())
+}
+
+/// Adds the nodes that are missing for a quorum.
+pub(crate) fn add_no_quorum(line: &mut TextBuffer, down: NodeSet) -> Result<(), Memory>
+    ensures { OnOk result (line.new ≡ line.old ++ no_quorum_text down) }
+{
+    line.add_words("noquorum ")?;
+    add_nodes(line, down)
 }
 
 /// Adds the name of a transaction.

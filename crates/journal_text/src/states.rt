@@ -1,15 +1,15 @@
 //! The lines of leases, of region statements, and of what a scenario asks to be shown.
 
 ghost use Rattle.std.specs.Prelude.{◌≡◌, ◌++◌, OnOk};
-ghost use Rattle.journal_text.specs.StateText.{holding_text, lease_text, lease_why_text, lease_refusal_text, close_refusal_text, sql_why_text, sql_refusal_text, schema_text, range_line, node_line, flight_line, fresh_line};
+ghost use Rattle.journal_text.specs.StateText.{holding_text, not_holder_text, lease_text, lease_why_text, lease_refusal_text, close_refusal_text, sql_why_text, sql_refusal_text, schema_text, range_line, node_line, flight_line, fresh_line};
 
 use crate::buffer::{Part, TextBuffer};
+use crate::parts::{add_no_quorum, add_number_or_dash, add_reading};
 use journal::{LeaseWhy, SqlWhy};
-use crate::parts::{add_nodes, add_number_or_dash, add_reading};
 use mr_base::{Memory, MsgId, NodeId, RangeId, Reading, Ts};
 
 /// Adds a lease: its sequence, holder and expiration.
-pub(crate) fn add_holding(
+fn add_holding(
     line: &mut TextBuffer,
     seq: u32,
     holder: NodeId,
@@ -20,6 +20,19 @@ pub(crate) fn add_holding(
     line.add_shown(&seq)?;
     line.add_field(" ", &holder)?;
     line.add_field(" ", &expiration)
+}
+
+/// Adds that the lease is another's.
+pub(crate) fn add_not_holder(
+    line: &mut TextBuffer,
+    seq: u32,
+    holder: NodeId,
+    expiration: u64,
+) -> Result<(), Memory>
+    ensures { OnOk result (line.new ≡ line.old ++ not_holder_text seq holder expiration) }
+{
+    line.add_words("notholder ")?;
+    add_holding(line, seq, holder, expiration)
 }
 
 /// Adds that a range has a new lease.
@@ -46,10 +59,7 @@ fn add_lease_why(line: &mut TextBuffer, why: LeaseWhy) -> Result<(), Memory>
         LeaseWhy::NotVoter => line.add_words("notvoter"),
         LeaseWhy::Live { expiration } => line.add_field("live ", &expiration),
         LeaseWhy::NotHolder => line.add_words("notholder"),
-        LeaseWhy::NoQuorum { down } => {
-            line.add_words("noquorum ")?;
-            add_nodes(line, down)
-        }
+        LeaseWhy::NoQuorum { down } => add_no_quorum(line, down),
     }
 }
 

@@ -4,9 +4,9 @@ ghost use Rattle.std.specs.Prelude.{◌≡◌, ◌++◌, OnOk};
 ghost use Rattle.journal_text.specs.StepText.{clock_text, event_line, begin_line, sent_line, message_line, append_line, apply_line, place_text, basis_text, fated_line, retry_line};
 
 use crate::buffer::{Part, TextBuffer};
-use journal::{How, Shown};
 use crate::logs::{add_cause, add_fate, add_fates};
 use crate::parts::{add_name, add_number_or_dash, add_reading};
+use journal::{How, Shown};
 use mr_base::{
     AttemptId, Bytes, Fate, Known, Memory, MsgId, NodeId, RangeId, Reading, Span, Ts, TxnId,
 };

@@ -5,7 +5,6 @@ ghost use Rattle.journal_text.specs.EntryText.{answer_text, step_text, entry_tex
 
 use crate::answers::{add_ack, add_fault, add_lost, add_refusal};
 use crate::buffer::TextBuffer;
-use journal::JournalEntry;
 use crate::modes::Mode;
 use crate::states::{
     add_close_refusal, add_flight_line, add_fresh_line, add_lease, add_lease_refusal,
@@ -15,6 +14,7 @@ use crate::steps::{
     add_append, add_apply, add_basis, add_begin, add_event, add_fated, add_message, add_place,
     add_retry, add_sent,
 };
+use journal::JournalEntry;
 use mr_base::{Bytes, Memory};
 use std::alloc::Global;
 
