@@ -24,6 +24,3 @@ pub use journal_text::{Mode, counts_of, text_of, texts_stay};
 pub use lines::{Line, LineFault};
 pub use reader::{Scenario, lines_are_sound};
 pub use world::{NoWorld, World};
-
-#[cfg(test)]
-mod tests;

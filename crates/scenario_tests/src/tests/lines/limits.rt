@@ -1,8 +1,8 @@
 //! How long lines may be, and how many lines, nodes and regions a scenario may have.
 
-use super::reader::{OneOfEach, RUNNING, SETUP, STOPPED, fault_behind, number_of, read_all};
-use crate::*;
+use super::{OneOfEach, RUNNING, SETUP, STOPPED, fault_behind, number_of, read_all};
 use mr_base::Memory;
+use scenario::{NoWorld, Scenario};
 use std::alloc::Global;
 use std::test::Fail;
 
@@ -15,20 +15,10 @@ fn long_line(alloc: Global, word: &[u8], length: usize) -> Result<Vec<u8>, Memor
     Ok(line)
 }
 
-/// How many of the words, each with blanks behind it, are answered by the fault beside them, up to the
-/// first that isn't. The line has so many bytes.
-fn long_answered(
-    alloc: Global,
-    length: usize,
-    words: &[(&[u8], &[u8], u8)],
-) -> Result<usize, Memory> {
-    for (i, (head, word, fault)) in words.iter().enumerate() {
-        let line = long_line(alloc, word, length)?;
-        if fault_behind(alloc, head, line.as_slice()) != *fault {
-            return Ok(i);
-        }
-    }
-    Ok(words.len())
+/// How the word with blanks behind it is answered as a line of so many bytes.
+fn long_fault(alloc: Global, length: usize, head: &[u8], word: &[u8]) -> Result<u8, Memory> {
+    let line = long_line(alloc, word, length)?;
+    Ok(fault_behind(alloc, head, line.as_slice()))
 }
 
 const LONG_LINES: [(&[u8], &[u8], u8); 10] = [
@@ -44,23 +34,23 @@ const LONG_LINES: [(&[u8], &[u8], u8); 10] = [
     (STOPPED, b"txn t2 n1 now", 9),
 ];
 
-const TOO_LONG_LINES: [(&[u8], &[u8], u8); 10] = [
-    (RUNNING, b"sql", 10),
-    (RUNNING, b"#", 10),
-    (RUNNING, b"grain", 10),
-    (RUNNING, b"drain", 10),
-    (RUNNING, b"txn t2 n1 ago 3600001", 10),
-    (b"", b"sql", 10),
-    (SETUP, b"txn t2 n1 now", 10),
-    (RUNNING, b"txn t2 n9 now", 10),
-    (RUNNING, b"txn t1 n1 now", 10),
-    (STOPPED, b"txn t2 n1 now", 10),
-];
-
 #[test]
 fn lines_have_4096_bytes(rt: HostRuntime) -> Result<(), Fail> {
-    assert_eq!(rt; long_answered(rt.alloc(), 4096, &LONG_LINES)?, 10);
-    assert_eq!(rt; long_answered(rt.alloc(), 4097, &TOO_LONG_LINES)?, 10);
+    for (head, word, fault) in LONG_LINES {
+        assert_eq!(rt;
+            long_fault(rt.alloc(), 4096, head, word)?,
+            fault,
+            "{word:?}"
+        );
+    }
+    Ok(())
+}
+
+#[test]
+fn longer_lines_are_too_long(rt: HostRuntime) -> Result<(), Fail> {
+    for (head, word, _) in LONG_LINES {
+        assert_eq!(rt; long_fault(rt.alloc(), 4097, head, word)?, 10, "{word:?}");
+    }
     Ok(())
 }
 
@@ -129,36 +119,27 @@ fn fault_behind_nodes(alloc: Global, letters: &[u8], line: &[u8]) -> Result<u8, 
     Ok(number_of(scenario.read_line(line, &NoWorld)))
 }
 
-static SIXTEEN_REGIONS: &[u8] = b"abcdefghijklmnop";
+const SIXTEEN_REGIONS: &[u8] = b"abcdefghijklmnop";
 
-static SIXTY_THREE_NODES: &[u8] =
-    b"aaaaaaaaaaaaaaaaaaaaaaaaaaaaaaaabbbbbbbbbbbbbbbbbbbbbbbbbbbbbbb";
+const SIXTY_THREE_NODES: &[u8] = b"aaaaaaaaaaaaaaaaaaaaaaaaaaaaaaaabbbbbbbbbbbbbbbbbbbbbbbbbbbbbbb";
 
-static SIXTY_FOUR_NODES: &[u8] =
-    b"aaaaaaaaaaaaaaaaaaaaaaaaaaaaaaaabbbbbbbbbbbbbbbbbbbbbbbbbbbbbbbb";
+const SIXTY_FOUR_NODES: &[u8] = b"aaaaaaaaaaaaaaaaaaaaaaaaaaaaaaaabbbbbbbbbbbbbbbbbbbbbbbbbbbbbbbb";
 
-#[test]
-fn regions_are_16(rt: HostRuntime) -> Result<(), Fail> {
-    assert_eq!(rt;
-        fault_behind_nodes(rt.alloc(), SIXTEEN_REGIONS, b"node n17 q z 1")?,
-        3
-    );
-    assert_eq!(rt;
-        fault_behind_nodes(rt.alloc(), SIXTEEN_REGIONS, b"node n17 p z 1")?,
-        0
-    );
-    Ok(())
-}
+const MOST_NODES: [(&[u8], &[u8], u8); 4] = [
+    (SIXTEEN_REGIONS, b"node n17 q z 1", 3),
+    (SIXTEEN_REGIONS, b"node n17 p z 1", 0),
+    (SIXTY_THREE_NODES, b"node n64 c z 1", 0),
+    (SIXTY_FOUR_NODES, b"node n65 c z 1", 3),
+];
 
 #[test]
-fn nodes_are_64(rt: HostRuntime) -> Result<(), Fail> {
-    assert_eq!(rt;
-        fault_behind_nodes(rt.alloc(), SIXTY_THREE_NODES, b"node n64 c z 1")?,
-        0
-    );
-    assert_eq!(rt;
-        fault_behind_nodes(rt.alloc(), SIXTY_FOUR_NODES, b"node n65 c z 1")?,
-        3
-    );
+fn regions_are_16_and_nodes_64(rt: HostRuntime) -> Result<(), Fail> {
+    for (letters, line, fault) in MOST_NODES {
+        assert_eq!(rt;
+            fault_behind_nodes(rt.alloc(), letters, line)?,
+            fault,
+            "{line:?}"
+        );
+    }
     Ok(())
 }

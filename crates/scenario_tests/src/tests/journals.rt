@@ -1,6 +1,6 @@
 //! A journal that grows.
 
-use crate::{Journal, JournalEntry};
+use journal::{Journal, JournalEntry};
 use mr_base::MsgId;
 use std::test::Fail;
 
@@ -10,5 +10,6 @@ fn journals_grow(rt: HostRuntime) -> Result<(), Fail> {
     let mut journal = Journal::new(alloc);
     journal.push(JournalEntry::Event { line: 5 })?;
     journal.push(JournalEntry::Taken { id: MsgId(1) })?;
+    let _ = Journal::of_parts(Vec::new(alloc), Vec::new(alloc));
     Ok(())
 }

@@ -1,0 +1,3 @@
+mod journals;
+mod lines;
+mod texts;
