@@ -14,9 +14,9 @@ use crate::courses::course_of;
 use crate::range::Range;
 use crate::steps::{begin_steps, lease_until, transaction_steps};
 use crate::transaction::Begun;
+use journal::{Event, Journal, JournalEntry};
 use mr_base::{AttemptId, Memory, Settings, TxnId};
 use region_sql::{OneColumnStatement, one_column_statement};
-use journal::{Event, Journal, JournalEntry};
 use std::alloc::Global;
 use std::marker::Model;
 

@@ -14,10 +14,10 @@ use crate::transaction::{
     BOOT, Begun, NODE, append_entry, begin_entry, duplicate_entry, insert_ack, insert_entries,
     no_lease_entry, select_ack, serve_entry,
 };
+use journal::JournalEntry;
 use mr_base::{Memory, Reading, Ts};
 use range_log::{Entry, Lease};
 use row_locality::{one_column_point, one_column_span};
-use journal::JournalEntry;
 use std::alloc::Global;
 
 /// The first lease of the range, up to this wall.

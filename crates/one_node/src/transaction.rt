@@ -4,13 +4,13 @@ ghost use Rattle.std.specs.Prelude.{◌≡◌, ◌+◌, ◌<◌, ◌^◌, ◌∷
 ghost use Rattle.one_node.specs.Steps.{begin_step, serve_step, insert_steps, ack_insert, ack_select, duplicate, no_lease};
 ghost use Rattle.row_locality.specs.OneColumnDatabases.{row_with};
 
+use journal::{How, JournalEntry, StatementResult, Verb, Why};
 use mr_base::{
     AttemptId, CloneIn, Datum, Fate, ListOf, Memory, NodeId, Pair, RangeId, Span, SqlState, Ts,
     TxnId,
 };
 use range_log::{Entry, TxnState};
 use row_locality::one_column_row;
-use journal::{How, JournalEntry, StatementResult, Verb, Why};
 use std::alloc::Global;
 use std::collections::BTreeSet;
 
