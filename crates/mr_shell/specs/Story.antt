@@ -1,6 +1,7 @@
 use Rattle.std.specs.Prelude.{◌≡◌, ℕ, ◌+◌, List, [], ◌∷◌, false, length}
+use Rattle.journal.specs.Settings.{the_standard_settings}
 use Rattle.one_node_laws.specs.LinesRun.{LinesRun, no_lines, with_line}
-use Rattle.scenario.specs.FirstPath.{Reads, HasNoLine, the_standard_settings}
+use Rattle.scenario.specs.FirstPath.{Reads, HasNoLine}
 use Rattle.scenario.specs.FirstSeen.{Seen}
 use Rattle.scenario.specs.declared.lines.Line.{Line}
 use Rattle.scenario.specs.declared.lines.Line.TheVariants as lines
