@@ -1,2 +1,3 @@
 mod Options
 pub mod SpanLemmas
+mod Utf8

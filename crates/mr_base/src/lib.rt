@@ -29,7 +29,7 @@ pub use script::{Fed, FixedScript, Need, Script};
 pub use settings::{Kind, Settings};
 pub use spans::{Ask, Pair, Span, Write};
 pub use states::SqlState;
-pub use text_parts::{after_head, before_tail, round_blank};
+pub use text_parts::{after_head, before_tail, is_utf8, round_blank};
 pub use timestamps::{Reading, Ts, order_of_timestamps};
 
 #[cfg(test)]

@@ -1,6 +1,7 @@
-//! What stands in a text after a head, before a tail, and round the first blank.
+//! What stands in a text after a head, before a tail, and round the first blank; and whether bytes are a text.
 
-ghost use Rattle.std.specs.Prelude.{◌≡◌, ◌≢◌, ℕ, List, ◌++◌, ◌∷◌, [], IfSome, IfNone, IsSome, Contains, codes};
+ghost use Rattle.std.specs.Prelude.{◌≡◌, ◌≢◌, ◌↔◌, ℕ, List, ◌++◌, ◌∷◌, [], IfSome, IfNone, IsSome, IsTrue, IsUtf8, Contains, codes};
+ghost use Rattle.std.specs.Str.{is_utf8};
 
 /// What stands after the head, where the text begins with it.
 pub fn after_head<'a>(text: &'a [u8], head: &[u8]) -> Option<&'a [u8]>
@@ -27,4 +28,13 @@ pub fn round_blank(text: &[u8]) -> Option<(&[u8], &[u8])>
     let at = text.iter().position(|b| *b == b' ')?;
     let (front, rest) = text.split_at(at);
     Some((front, &rest[1..]))
+}
+
+/// Whether the bytes are UTF-8.
+#[tactic(auto, using(crate::proofs::Utf8::is_text, crate::proofs::Utf8::is_no_text))]
+pub fn is_utf8(bytes: &[u8]) -> bool
+    ensures exact { result ≡ is_utf8 bytes.now }
+    ensures means { IsTrue result ↔ IsUtf8 bytes.now }
+{
+    std::str::from_utf8(bytes).is_ok()
 }
