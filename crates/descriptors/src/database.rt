@@ -12,7 +12,7 @@ use std::alloc::Global;
 /// A database. Its regions stand in catalog order: the primary region as first named, then the others
 /// as listed or added; `primary` is a place among them. `restricted` databases place their ordinary
 /// tables in the home region alone.
-#[derive(Debug, PartialEq, Eq, Drop)]
+#[derive(Drop)]
 pub struct Database {
     pub name: Bytes,
     pub regions: ListOf<Bytes>,
