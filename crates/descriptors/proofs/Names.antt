@@ -1,5 +1,5 @@
 -- The new names of a region statement are texts.
-use Rattle.std.proofs.Common.{◌≡◌, ℕ, List, [], ◌∷◌, Option, None, Some, All, IsUtf8, sym, ap, ◌∙◌, subst, inl, inr, codes, rules, Err}
+use Rattle.std.proofs.Common.{◌≡◌, ℕ, List, [], ◌∷◌, Option, None, Some, All, IsUtf8, sym, ap, ◌∙◌, subst, inl, inr, codes, rules}
 use Rattle.std.proofs.lemmas.List.Elements.{All-cons, All-nil}
 use Rattle.std.proofs.lemmas.Option.{none-some, same_Some}
 use Rattle.region_sql.specs.declared.region_statements.ColumnType.{ColumnType}
@@ -7,8 +7,6 @@ use Rattle.region_sql.specs.declared.region_statements.Goal.{Goal}
 use Rattle.region_sql.specs.declared.region_statements.Item.{Item}
 use Rattle.region_sql.specs.declared.region_statements.Item.TheVariants as items
 use Rattle.region_sql.specs.declared.region_statements.RegionStatement.{RegionStatement}
-use Rattle.region_sql.specs.declared.row_statements.RowStatement.{RowStatement}
-use Rattle.region_sql.specs.declared.statements.Statement.{Statement}
 use Rattle.region_sql.specs.declared.statements.Statement.TheVariants as statements
 use Rattle.region_sql.specs.declared.tokens.Key.TheVariants as key
 use Rattle.region_sql.specs.declared.tokens.Sign.TheVariants as sign

@@ -52,6 +52,15 @@ with_goal goal d = record d { goal = goal }
 abbrev pub with_restricted : Bool → Database → Database
 with_restricted restricted d = record d { restricted = restricted }
 
+-- What ALTER DATABASE makes of the database that it names.
+abbrev pub altered : RegionStatement → Database → Database
+altered (SetPrimary name region) d = if has_regions d then with_primary region d else with_first_region region d
+altered (AddRegion name region) d = with_region region d
+altered (DropRegion name region) d = without_region region d
+altered (Survive name goal) d = with_goal goal d
+altered (Placement name restricted) d = with_restricted restricted d
+altered _ d = d
+
 -- A table without a locality in a database with regions is REGIONAL BY TABLE IN PRIMARY REGION.
 abbrev pub locality_made : Database → Option Locality → Option Locality
 locality_made d locality = if has_regions d then Some (unwrap_or locality InPrimary) else None

@@ -6,16 +6,15 @@ ghost use Rattle.std.specs.Str.{bytes_eq};
 ghost use Rattle.descriptors.specs.Contents.{is_database, is_table, database_named, table_named, current_database, current_table};
 ghost use Rattle.descriptors.specs.Lists.{changed};
 ghost use Rattle.descriptors.specs.Refusals.{of_database, has_regions, refusal_of};
-ghost use Rattle.descriptors.specs.Changes.{after, with_table, with_locality, with_database, with_first_region, with_goal, with_primary, with_region, with_restricted, without_region, homed_in_primary};
+ghost use Rattle.descriptors.specs.Changes.{after, altered, with_table, with_locality, with_database, homed_in_primary};
 
 use crate::database::Database;
-use crate::lists::{place_of, without};
 use crate::made::{database_made, table_made};
 use crate::store::{Entry, Store};
 use crate::table::Table;
-use mr_base::{Bytes, CloneIn, ListOf, Memory};
+use mr_base::{CloneIn, Memory};
 use name_places::NamePlaces;
-use region_sql::{Goal, Item, Locality, RegionStatement};
+use region_sql::{Item, Locality, RegionStatement};
 use std::alloc::Global;
 
 impl Store {
@@ -44,24 +43,13 @@ impl Store {
                 Ok(())
             }
             RegionStatement::SetPrimary { database, region } => {
-                self.change_primary(database.as_slice(), region.as_slice())
+                self.change_primary(s, database.as_slice(), region.as_slice())
             }
-            RegionStatement::AddRegion { database, region } => {
-                self.add_region(database.as_slice(), region.as_slice())
-            }
-            RegionStatement::DropRegion { database, region } => {
-                self.drop_region(database.as_slice(), region.as_slice())
-            }
-            RegionStatement::Survive { database, goal } => {
-                self.set_goal(database.as_slice(), *goal);
-                Ok(())
-            }
-            RegionStatement::Placement {
-                database,
-                restricted,
-            } => {
-                self.set_restricted(database.as_slice(), *restricted);
-                Ok(())
+            RegionStatement::AddRegion { database, .. }
+            | RegionStatement::DropRegion { database, .. }
+            | RegionStatement::Survive { database, .. }
+            | RegionStatement::Placement { database, .. } => {
+                self.alter_database(s, database.as_slice())
             }
             RegionStatement::CreateTable {
                 name,
@@ -69,8 +57,7 @@ impl Store {
                 locality,
             } => self.create_table(name.as_slice(), items.as_slice(), locality),
             RegionStatement::SetLocality { table, locality } => {
-                let locality = locality.clone_in(self.alloc)?;
-                self.set_locality(table.as_slice(), locality);
+                self.set_locality(table.as_slice(), locality.clone_in(self.alloc)?);
                 Ok(())
             }
         }
@@ -160,82 +147,33 @@ impl Store {
     }
 
     /// SET PRIMARY REGION. The store is unchanged after want of memory.
-    fn change_primary(&mut self, name: &[u8], region: &[u8]) -> Result<(), Memory>
+    fn change_primary(
+        &mut self,
+        s: &RegionStatement,
+        name: &[u8],
+        region: &[u8],
+    ) -> Result<(), Memory>
+        requires { s.now ≡ RegionStatement.SetPrimary name.now region.now }
         ensures ok { OnOk result (self.new ≡ after self.old (RegionStatement.SetPrimary name.now region.now)) }
         ensures err { OnErr result (self.new ≡ self.old) }
     {
         if self.has_regions_in(name) {
-            self.set_primary(name, region);
-        } else {
-            self.set_first_region(name, region)?;
-            self.home_tables(name);
+            return self.alter_database(s, name);
         }
+        self.alter_database(s, name)?;
+        self.home_tables(name);
         Ok(())
     }
 
-    /// Another region of a database as its primary region.
-    fn set_primary(&mut self, name: &[u8], region: &[u8])
-        ensures { self.new ≡ with_database self.old name.now (with_primary region.now) }
-    {
-        if let Some(place) = self.place_of_database(name) {
-            let database = &mut self.entries[place].database;
-            database.primary = place_of(database.regions.as_slice(), region);
-        }
-    }
-
-    /// The first region of a database. The store is unchanged after want of memory.
-    fn set_first_region(&mut self, name: &[u8], region: &[u8]) -> Result<(), Memory>
-        ensures ok { OnOk result (self.new ≡ with_database self.old name.now (with_first_region region.now)) }
+    /// ALTER DATABASE. The store is unchanged after want of memory.
+    fn alter_database(&mut self, s: &RegionStatement, name: &[u8]) -> Result<(), Memory>
+        ensures ok { OnOk result (self.new ≡ with_database self.old name.now (altered s.now)) }
         ensures err { OnErr result (self.new ≡ self.old) }
     {
         if let Some(place) = self.place_of_database(name) {
-            let regions = one_region(self.alloc, region)?;
-            self.entries[place].database.set_first_region(regions);
+            self.entries[place].database.alter(self.alloc, s)?;
         }
         Ok(())
-    }
-
-    /// Another region of a database. The store is unchanged after want of memory.
-    fn add_region(&mut self, name: &[u8], region: &[u8]) -> Result<(), Memory>
-        ensures ok { OnOk result (self.new ≡ with_database self.old name.now (with_region region.now)) }
-        ensures err { OnErr result (self.new ≡ self.old) }
-    {
-        if let Some(place) = self.place_of_database(name) {
-            let region = Bytes::from_slice(self.alloc, region)?;
-            self.entries[place].database.add_region(region)?;
-        }
-        Ok(())
-    }
-
-    /// A database without a region. The store is unchanged after want of memory.
-    fn drop_region(&mut self, name: &[u8], region: &[u8]) -> Result<(), Memory>
-        ensures ok { OnOk result (self.new ≡ with_database self.old name.now (without_region region.now)) }
-        ensures err { OnErr result (self.new ≡ self.old) }
-    {
-        if let Some(place) = self.place_of_database(name) {
-            let database = &mut self.entries[place].database;
-            let regions = without(self.alloc, region, database.regions.as_slice())?;
-            database.keep_regions(regions);
-        }
-        Ok(())
-    }
-
-    /// What a database is to survive.
-    fn set_goal(&mut self, name: &[u8], goal: Goal)
-        ensures { self.new ≡ with_database self.old name.now (with_goal goal) }
-    {
-        if let Some(place) = self.place_of_database(name) {
-            self.entries[place].database.goal = goal;
-        }
-    }
-
-    /// Whether a database is restricted.
-    fn set_restricted(&mut self, name: &[u8], restricted: bool)
-        ensures { self.new ≡ with_database self.old name.now (with_restricted restricted) }
-    {
-        if let Some(place) = self.place_of_database(name) {
-            self.entries[place].database.restricted = restricted;
-        }
     }
 
     /// The tables of a database in its primary region.
@@ -244,15 +182,6 @@ impl Store {
     {
         home_in_primary(&mut self.tables, name);
     }
-}
-
-/// A region as a list.
-fn one_region(alloc: Global, region: &[u8]) -> Result<ListOf<Bytes>, Memory>
-    ensures { IfOk result (λ regions. regions ≡ region.now ∷ []) }
-{
-    let mut regions = ListOf::new(alloc);
-    regions.push(Bytes::from_slice(alloc, region)?)?;
-    Ok(regions)
 }
 
 /// The tables of a database in its primary region.

@@ -33,10 +33,7 @@ fn regions_made(
 fn first_place(primary: &Option<Bytes>) -> Option<usize>
     ensures { result ≡ option_map (λ _. 0) primary.now }
 {
-    match primary {
-        Some(_) => Some(0),
-        None => None,
-    }
+    primary.as_ref().map(|_| 0)
 }
 
 /// A new database.

@@ -6,7 +6,7 @@ use mr_base::{Memory, SqlState};
 
 /// Why the catalog refuses a statement. Source of the states: PostgreSQL's list; of the numbers: this
 /// project's profile.
-#[derive(Clone, Copy, Debug, PartialEq, Eq)]
+#[derive(Clone, Copy)]
 pub enum CatalogRefusal {
     /// A database or a table is missing, or is there already.
     State(SqlState),

@@ -71,30 +71,21 @@ impl Store {
     fn database_at(&self, place: usize) -> Option<&Database>
         ensures { option_copied result ≡ slice_get self.now.databases place }
     {
-        match self.entries.get(place) {
-            Some(entry) => Some(&entry.database),
-            None => None,
-        }
+        Some(&self.entries.get(place)?.database)
     }
 
     /// The database of a name.
     pub(crate) fn database(&self, name: &[u8]) -> Option<&Database>
         ensures { option_copied result ≡ database_named name.now self.now.databases }
     {
-        match self.place_of_database(name) {
-            Some(place) => self.database_at(place),
-            None => None,
-        }
+        self.database_at(self.place_of_database(name)?)
     }
 
     /// The current database.
     pub(crate) fn current_database(&self) -> Option<&Database>
         ensures { option_copied result ≡ current_database self.now }
     {
-        match self.current {
-            Some(place) => self.database_at(place),
-            None => None,
-        }
+        self.database_at(self.current?)
     }
 
     /// The table at a place.
@@ -115,23 +106,15 @@ impl Store {
     pub(crate) fn place_of_table(&self, name: &[u8]) -> Option<usize>
         ensures { result ≡ option_and_then (λ d. position (is_table d.name name.now) self.now.tables) (current_database self.now) }
     {
-        match self.current {
-            Some(place) => match entry_at(&self.entries, place) {
-                Some(entry) => entry.tables.place(name),
-                None => None,
-            },
-            None => None,
-        }
+        let entry = entry_at(&self.entries, self.current?)?;
+        entry.tables.place(name)
     }
 
     /// The table of a name in the current database.
     pub(crate) fn table(&self, name: &[u8]) -> Option<&Table>
         ensures { option_copied result ≡ current_table self.now name.now }
     {
-        match self.place_of_table(name) {
-            Some(place) => self.table_at(place),
-            None => None,
-        }
+        self.table_at(self.place_of_table(name)?)
     }
 }
 

@@ -9,7 +9,7 @@ use std::alloc::Global;
 /// A table. `key` and `unique` are places of columns: those of the primary key in the order in which
 /// the key names them, and those that are UNIQUE in declared order. In a database without regions a
 /// table has no locality.
-#[derive(Debug, PartialEq, Eq, Drop)]
+#[derive(Drop)]
 pub struct Table {
     pub name: Bytes,
     pub database: Bytes,

@@ -4,8 +4,6 @@ use Rattle.std.specs.List.{prefix_len}
 use Rattle.std.specs.Char.{is_ascii_digit}
 use Rattle.std.proofs.Math.Nat.{pow-le-pow_right}
 use Rattle.std.proofs.lemmas.List.{get_or-take, length-take}
-use Rattle.std.proofs.lemmas.Str.{is_utf8-from_IsUtf8, IsUtf8-from_is_utf8}
-use Rattle.std.specs.Str.{IsUtf8, is_utf8}
 use Rattle.std.proofs.lemmas.List.Sums.{prefix_len_is, prefix_len_passes, prefix_len_stops, prefix_len-le-length}
 use Rattle.region_sql.specs.declared.byte_classes.ByteClass.{ByteClass}
 use Rattle.region_sql.specs.Lexing.{is_in_class, with_byte}
@@ -50,9 +48,3 @@ front_run p n xs =
 
 pub few_digits : (bytes : List ℕ) → prefix_len is_ascii_digit (take (min (length bytes) 30) bytes) ≡ min 30 (prefix_len is_ascii_digit bytes)
 few_digits bytes = omega (arith, front_run is_ascii_digit (min (length bytes) 30) bytes, prefix_len-le-length is_ascii_digit bytes)
-
-pub is_text : (bs : List ℕ) → IsUtf8 bs → true ≡ is_utf8 bs
-is_text bs h = sym (is_utf8-from_IsUtf8 bs h)
-
-pub is_no_text : (bs : List ℕ) → ¬ IsUtf8 bs → false ≡ is_utf8 bs
-is_no_text bs h = elim (is_utf8 bs) as (λ b. is_utf8 bs ≡ b → false ≡ b) [ true ↦ λ e. absurd (h (IsUtf8-from_is_utf8 bs e)) | false ↦ λ e. refl ] refl

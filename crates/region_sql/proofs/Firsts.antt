@@ -3,7 +3,7 @@ use Rattle.std.proofs.Common.{◌≡◌, [], ◌∷◌, refl}
 use Rattle.region_sql.specs.declared.tokens.Key.TheVariants as key
 use Rattle.region_sql.specs.Tokens.{key_number}
 use Rattle.region_sql.specs.Reading.{first}
-use Rattle.region_sql.specs.Grammar.{insert, select, update, delete, row_statement, new_database, altered_database, survive, create, alter, used, region_statement}
+use Rattle.region_sql.specs.Grammar.{insert, select, update, delete, row_statement, new_database, database_regions, altered_database, survive, create, alter, used, region_statement}
 
 pub of_insert : first insert ≡ key_number key.Insert ∷ []
 unfolding insert
@@ -28,6 +28,10 @@ of_row_statement = refl
 pub of_new_database : first new_database ≡ key_number key.Database ∷ []
 unfolding new_database
 of_new_database = refl
+
+pub of_database_regions : first database_regions ≡ key_number key.Primary ∷ []
+unfolding database_regions
+of_database_regions = refl
 
 pub of_altered_database : first altered_database ≡ key_number key.Database ∷ []
 unfolding altered_database

@@ -5,6 +5,7 @@ pub mod Firsts
 pub mod Good
 pub mod GoodForms
 pub mod GoodRegionForms
+pub mod OneKind
 pub mod Lexes
 pub mod ListOutcomes
 pub mod Loops

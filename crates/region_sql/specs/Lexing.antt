@@ -2,6 +2,7 @@
 -- Source: this project's profile of the SQL of CockroachDB's documentation.
 use Rattle.std.specs.Prelude.{◌≡◌, ℕ, ◌+◌, ◌-◌, ◌*◌, ◌==◌, Bool, true, false, not, ◌&&◌, ◌||◌, List, [], ◌∷◌, length, take, drop, map, min, fold, codes, Option, Some, None, if◌then◌else◌, pos, neg_ℤ, option_map, bytes_eq, ℤ}
 use Rattle.std.specs.List.{prefix_len}
+use Rattle.std.specs.Map.{lookup}
 use Rattle.std.specs.Char.{is_ascii_alphabetic, is_ascii_alphanumeric, is_ascii_digit, to_ascii_lowercase}
 use Rattle.std.specs.Str.{is_utf8}
 use Rattle.region_sql.specs.declared.byte_classes.ByteClass.{ByteClass}
@@ -50,62 +51,66 @@ starts_with p (b ∷ bytes) = p b
 
 -- ---- words
 
-abbrev pub key_text : Key → List ℕ
-key_text key.Add = codes "add"
-key_text key.Alter = codes "alter"
-key_text key.And = codes "and"
-key_text key.By = codes "by"
-key_text key.Count = codes "count"
-key_text key.Create = codes "create"
-key_text key.Database = codes "database"
-key_text key.Delete = codes "delete"
-key_text key.Drop = codes "drop"
-key_text key.Failure = codes "failure"
-key_text key.From = codes "from"
-key_text key.Global = codes "global"
-key_text key.In = codes "in"
-key_text key.Insert = codes "insert"
-key_text key.Into = codes "into"
-key_text key.Key = codes "key"
-key_text key.Locality = codes "locality"
-key_text key.Not = codes "not"
-key_text key.Null = codes "null"
-key_text key.Primary = codes "primary"
-key_text key.Region = codes "region"
-key_text key.Regional = codes "regional"
-key_text key.Regions = codes "regions"
-key_text key.Row = codes "row"
-key_text key.Select = codes "select"
-key_text key.Set = codes "set"
-key_text key.Survive = codes "survive"
-key_text key.Table = codes "table"
-key_text key.Unique = codes "unique"
-key_text key.Update = codes "update"
-key_text key.Use = codes "use"
-key_text key.Values = codes "values"
-key_text key.Where = codes "where"
-key_text key.Zone = codes "zone"
-
 -- The words that are key words wherever they stand.
-abbrev pub key_words : List Key
-key_words = key.Add ∷ key.Alter ∷ key.And ∷ key.By ∷ key.Create ∷ key.Database ∷ key.Delete ∷ key.Drop ∷ key.Failure ∷ key.From ∷ key.Global ∷ key.In ∷ key.Insert ∷ key.Into ∷ key.Key ∷ key.Locality ∷ key.Not ∷ key.Null ∷ key.Primary ∷ key.Region ∷ key.Regional ∷ key.Regions ∷ key.Row ∷ key.Select ∷ key.Set ∷ key.Survive ∷ key.Table ∷ key.Unique ∷ key.Update ∷ key.Use ∷ key.Values ∷ key.Where ∷ key.Zone ∷ []
+abbrev pub key_words : List (List ℕ × Key)
+key_words =
+    (codes "add", key.Add)
+    ∷ (codes "alter", key.Alter)
+    ∷ (codes "and", key.And)
+    ∷ (codes "by", key.By)
+    ∷ (codes "create", key.Create)
+    ∷ (codes "database", key.Database)
+    ∷ (codes "delete", key.Delete)
+    ∷ (codes "drop", key.Drop)
+    ∷ (codes "failure", key.Failure)
+    ∷ (codes "from", key.From)
+    ∷ (codes "global", key.Global)
+    ∷ (codes "in", key.In)
+    ∷ (codes "insert", key.Insert)
+    ∷ (codes "into", key.Into)
+    ∷ (codes "key", key.Key)
+    ∷ (codes "locality", key.Locality)
+    ∷ (codes "not", key.Not)
+    ∷ (codes "null", key.Null)
+    ∷ (codes "primary", key.Primary)
+    ∷ (codes "region", key.Region)
+    ∷ (codes "regional", key.Regional)
+    ∷ (codes "regions", key.Regions)
+    ∷ (codes "row", key.Row)
+    ∷ (codes "select", key.Select)
+    ∷ (codes "set", key.Set)
+    ∷ (codes "survive", key.Survive)
+    ∷ (codes "table", key.Table)
+    ∷ (codes "unique", key.Unique)
+    ∷ (codes "update", key.Update)
+    ∷ (codes "use", key.Use)
+    ∷ (codes "values", key.Values)
+    ∷ (codes "where", key.Where)
+    ∷ (codes "zone", key.Zone)
+    ∷ []
 
--- The key among these with this text.
-abbrev pub key_among : List Key → List ℕ → Option Key
-key_among [] w = None
-key_among (k ∷ ks) w = if bytes_eq (key_text k) w then Some k else key_among ks w
+-- The words for the types of columns.
+abbrev pub type_words : List (List ℕ × ColumnType)
+type_words =
+    (codes "int", types.Int)
+    ∷ (codes "int8", types.Int)
+    ∷ (codes "bigint", types.Int)
+    ∷ (codes "string", types.String)
+    ∷ (codes "text", types.String)
+    ∷ (codes "bool", types.Bool)
+    ∷ []
 
 unfoldable pub key_of : List ℕ → Option Key
-key_of w = key_among key_words w
+key_of w = lookup (bytes_eq w) key_words
 
 unfoldable pub type_of : List ℕ → Option ColumnType
-type_of w = if bytes_eq w (codes "int") then Some types.Int else (if bytes_eq w (codes "int8") then Some types.Int else (if bytes_eq w (codes "bigint") then Some types.Int else (if bytes_eq w (codes "string") then Some types.String else (if bytes_eq w (codes "text") then Some types.String else (if bytes_eq w (codes "bool") then Some types.Bool else None)))))
+type_of w = lookup (bytes_eq w) type_words
 
 unfoldable pub bool_of : List ℕ → Option Bool
-bool_of w = if bytes_eq w (codes "true") then Some true else (if bytes_eq w (codes "false") then Some false else None)
+bool_of w = lookup (bytes_eq w) ((codes "true", true) ∷ (codes "false", false) ∷ [])
 
 unfoldable pub soft_of : List ℕ → Option Soft
-soft_of w = if bytes_eq w (codes "default") then Some soft.Default else (if bytes_eq w (codes "placement") then Some soft.Placement else (if bytes_eq w (codes "restricted") then Some soft.Restricted else None))
+soft_of w = lookup (bytes_eq w) ((codes "default", soft.Default) ∷ (codes "placement", soft.Placement) ∷ (codes "restricted", soft.Restricted) ∷ [])
 
 -- `count` is a key word where the next token is `(`.
 unfoldable pub count_or_name : List ℕ → List ℕ → Token
@@ -153,6 +158,11 @@ unfoldable pub unquoted_at : List ℕ → Option (List ℕ × List ℕ)
 unquoted_at [] = None
 unquoted_at (b ∷ []) = if b == 39 then Some ([], []) else None
 unquoted_at (b ∷ c ∷ bytes) = if b == 39 then (if c == 39 then with_byte 39 (unquoted_at bytes) else Some ([], c ∷ bytes)) else with_byte b (unquoted_at (c ∷ bytes))
+
+-- A byte or the end of what stands in quotes, and what is read after it.
+abbrev pub read_on : Option ℕ → List ℕ → Option (List ℕ × List ℕ)
+read_on None bytes = Some ([], bytes)
+read_on (Some b) bytes = with_byte b (unquoted_at bytes)
 
 abbrev pub as_text : Option (List ℕ × List ℕ) → Option (Token × List ℕ)
 as_text None = None

@@ -5,7 +5,7 @@ ghost use Rattle.std.specs.List.{prefix_len};
 ghost use Rattle.region_sql.specs.Lexing.{is_in_class, after_blanks, starts_with};
 
 /// Bytes that stand together.
-#[derive(Clone, Copy, Debug, PartialEq, Eq)]
+#[derive(Clone, Copy)]
 pub(crate) enum ByteClass {
     /// Spaces and tabs.
     Blank,

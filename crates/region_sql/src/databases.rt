@@ -38,8 +38,36 @@ fn maybe_survive_of(tokens: &[Token]) -> Result<(Option<Goal>, &[Token]), Stuck>
     Ok((Some(goal), rest))
 }
 
+/// The regions of a new database.
+#[derive(Drop)]
+struct NewRegions {
+    primary: Bytes,
+    others: ListOf<Bytes>,
+    goal: Option<Goal>,
+}
+
+/// PRIMARY REGION name [REGIONS names] [SURVIVE goal FAILURE]
+#[tactic(auto, unfolding(crate::specs::Grammar::database_regions))]
+fn database_regions_of(alloc: Global, tokens: &[Token]) -> Result<(NewRegions, &[Token]), Stuck>
+    ensures { Gives (λ x. (((x.0.primary, x.0.others), x.0.goal), x.1.now)) result (parse database_regions tokens.now) }
+{
+    let rest = pass_key(tokens, Key::Primary)?;
+    let rest = pass_key(rest, Key::Region)?;
+    let (primary, rest) = name_of(alloc, rest)?;
+    let (others, rest) = more_regions_of(alloc, rest)?;
+    let (goal, rest) = maybe_survive_of(rest)?;
+    Ok((
+        NewRegions {
+            primary,
+            others,
+            goal,
+        },
+        rest,
+    ))
+}
+
 /// DATABASE name, and what is said of its regions
-#[tactic(auto, unfolding(crate::specs::Grammar::new_database, crate::specs::Grammar::database_regions))]
+#[tactic(auto, unfolding(crate::specs::Grammar::new_database), using(crate::proofs::Firsts::of_database_regions))]
 pub(crate) fn new_database_of(
     alloc: Global,
     tokens: &[Token],
@@ -49,30 +77,22 @@ pub(crate) fn new_database_of(
     let rest = pass_key(tokens, Key::Database)?;
     let (name, rest) = name_of(alloc, rest)?;
     if !begins_with_key(rest, Key::Primary) {
-        let regions = ListOf::new(alloc);
         let statement = RegionStatement::CreateDatabase {
             name,
             primary: None,
-            regions,
+            regions: ListOf::new(alloc),
             goal: None,
         };
         return Ok((statement, rest));
     }
-    let rest = pass_key(rest, Key::Primary)?;
-    let rest = pass_key(rest, Key::Region)?;
-    let (primary, rest) = name_of(alloc, rest)?;
-    let (regions, rest) = more_regions_of(alloc, rest)?;
-    let (goal, rest) = maybe_survive_of(rest)?;
-    let primary = Some(primary);
-    Ok((
-        RegionStatement::CreateDatabase {
-            name,
-            primary,
-            regions,
-            goal,
-        },
-        rest,
-    ))
+    let (said, rest) = database_regions_of(alloc, rest)?;
+    let statement = RegionStatement::CreateDatabase {
+        name,
+        primary: Some(said.primary),
+        regions: said.others,
+        goal: said.goal,
+    };
+    Ok((statement, rest))
 }
 
 /// What is done to a database.

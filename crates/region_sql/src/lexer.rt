@@ -1,15 +1,14 @@
 //! Texts as tokens.
 
-ghost use Rattle.std.specs.Prelude.{◌≡◌, ◌<◌, ◌+◌, ◌≤◌, length, IfOk, IfSome, option_map, pos, take, drop, ◌∷◌};
-ghost use Rattle.std.specs.Str.{is_utf8};
-ghost use Rattle.region_sql.specs.Lexing.{is_word_start, less_at, greater_at, word_at, digits_at, quoted_at, unquoted_at, text_at, minus_at, sign_at, token_at};
+ghost use Rattle.std.specs.Prelude.{◌≡◌, ◌<◌, ◌+◌, ◌≤◌, length, IfOk, IfSome, option_map, option_and_then, pos, take, drop, ◌∷◌};
+ghost use Rattle.region_sql.specs.Lexing.{is_word_start, less_at, greater_at, word_at, digits_at, quoted_at, unquoted_at, read_on, text_at, minus_at, sign_at, token_at};
 
 use crate::byte_classes::{ByteClass, run_len};
 use crate::numbers::digits_at;
 use crate::row_statements::Comparison;
 use crate::tokens::{Sign, Token};
 use crate::words::word_token;
-use mr_base::{Bytes, Memory};
+use mr_base::{Bytes, Memory, is_utf8};
 use std::alloc::Global;
 
 /// A word and what follows it.
@@ -40,37 +39,36 @@ fn quoted_at(alloc: Global, bytes: &[u8]) -> Result<Option<(Token, &[u8])>, Memo
     Ok(Some((Token::Name(name), rest)))
 }
 
-/// Whether the bytes are UTF-8.
-#[tactic(auto, using(crate::proofs::Bytes::is_text, crate::proofs::Bytes::is_no_text))]
-fn is_utf8(bytes: &[u8]) -> bool
-    ensures { result ≡ is_utf8 bytes.now }
+/// The next byte of a text, or none at its end, and what follows that. A doubled `'` is one byte.
+#[tactic(auto, unfolding(crate::specs::Lexing::unquoted_at))]
+fn next_byte(bytes: &[u8]) -> Option<(Option<u8>, &[u8])>
+    ensures read { option_and_then (λ x. read_on x.0 x.1.now) result ≡ unquoted_at bytes.now }
+    ensures shorter { IfSome result (λ x. length x.1.now < length bytes.now) }
 {
-    match str::from_utf8(bytes) {
-        Ok(_) => true,
-        Err(_) => false,
+    match bytes {
+        [b'\'', b'\'', more @ ..] => Some((Some(b'\''), more)),
+        [b'\'', more @ ..] => Some((None, more)),
+        [byte, more @ ..] => Some((Some(*byte), more)),
+        [] => None,
     }
 }
 
-#[tactic(auto, unfolding(crate::specs::Lexing::unquoted_at), using(crate::proofs::Bytes::push_byte, crate::proofs::Bytes::with_no_bytes))]
 /// What stands up to the next `'` that isn't doubled, and what follows that.
+#[tactic(auto, unfolding(crate::specs::Lexing::unquoted_at), using(crate::proofs::Bytes::push_byte, crate::proofs::Bytes::with_no_bytes))]
 fn unquoted_at(alloc: Global, bytes: &[u8]) -> Result<Option<(Vec<u8>, &[u8])>, Memory>
     ensures { IfOk result (λ o. option_map (λ x. (x.0.items, x.1.now)) o ≡ unquoted_at bytes.now) }
 {
     let mut text = Vec::new(alloc);
     let mut rest = bytes;
     for _ in 0..bytes.len() {
-        match rest {
-            [b'\'', b'\'', more @ ..] => {
-                text.push(b'\'')?;
-                rest = more;
-            }
-            [b'\'', more @ ..] => return Ok(Some((text, more))),
-            [byte, more @ ..] => {
-                text.push(*byte)?;
-                rest = more;
-            }
-            [] => return Ok(None),
-        }
+        let Some((next, more)) = next_byte(rest) else {
+            return Ok(None);
+        };
+        let Some(byte) = next else {
+            return Ok(Some((text, more)));
+        };
+        text.push(byte)?;
+        rest = more;
     }
     Ok(None)
 }

@@ -10,7 +10,7 @@ use mr_base::Memory;
 use std::alloc::Global;
 
 /// The tokens of a text up to the first place where none fits.
-#[derive(Debug, Drop)]
+#[derive(Drop)]
 pub(crate) struct Lexed {
     pub(crate) tokens: Vec<Token>,
     /// The place just after each token, in bytes.

@@ -8,7 +8,7 @@ ghost use Rattle.region_sql.specs.declared.one_column_forms.OneColumnStatement.{
 use mr_base::{after_head, before_tail};
 
 /// A statement on the table `t (id INT PRIMARY KEY)`.
-#[derive(Clone, Copy, Debug, PartialEq, Eq)]
+#[derive(Clone, Copy)]
 pub enum OneColumnStatement {
     /// INSERT INTO t (id) VALUES (n)
     Insert(i64),
@@ -54,8 +54,5 @@ pub fn one_column_statement(text: &[u8]) -> Option<OneColumnStatement>
     if text == b"SELECT * FROM t".as_slice() {
         return Some(OneColumnStatement::SelectAll);
     }
-    match inserted(text) {
-        None => None,
-        Some(n) => Some(OneColumnStatement::Insert(n)),
-    }
+    Some(OneColumnStatement::Insert(inserted(text)?))
 }

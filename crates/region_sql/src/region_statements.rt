@@ -5,7 +5,7 @@ use mr_base::{Bytes, CloneIn, ListOf, Memory};
 use std::alloc::Global;
 
 /// What a database is to survive.
-#[derive(Clone, Copy, Debug, PartialEq, Eq)]
+#[derive(Clone, Copy, PartialEq, Eq)]
 pub enum Goal {
     /// The loss of one zone.
     Zone,
@@ -14,7 +14,7 @@ pub enum Goal {
 }
 
 /// Where a table's rows live.
-#[derive(Debug, PartialEq, Eq, Drop)]
+#[derive(Drop)]
 pub enum Locality {
     /// REGIONAL BY TABLE IN PRIMARY REGION
     InPrimary,
@@ -27,7 +27,7 @@ pub enum Locality {
 }
 
 /// The type of a column.
-#[derive(Clone, Copy, Debug, PartialEq, Eq)]
+#[derive(Clone, Copy)]
 pub enum ColumnType {
     /// INT, INT8 or BIGINT: an i64
     Int,
@@ -37,7 +37,7 @@ pub enum ColumnType {
 }
 
 /// What a column says of keys.
-#[derive(Clone, Copy, Debug, PartialEq, Eq)]
+#[derive(Clone, Copy)]
 pub enum ColumnKey {
     Plain,
     /// PRIMARY KEY
@@ -47,7 +47,7 @@ pub enum ColumnKey {
 }
 
 /// An item of CREATE TABLE.
-#[derive(Debug, PartialEq, Eq, Drop)]
+#[derive(Drop)]
 pub enum Item {
     Column {
         name: Bytes,
@@ -62,7 +62,7 @@ pub enum Item {
 }
 
 /// A statement on a database, its regions or its tables.
-#[derive(Debug, PartialEq, Eq, Drop)]
+#[derive(Drop)]
 pub enum RegionStatement {
     CreateDatabase {
         name: Bytes,

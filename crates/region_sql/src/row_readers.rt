@@ -171,7 +171,7 @@ fn rows_of(alloc: Global, tokens: &[Token]) -> Result<(ListOf<Literals>, &[Token
 }
 
 /// What a column's old value is changed by.
-#[derive(Clone, Copy, Debug, PartialEq, Eq)]
+#[derive(Clone, Copy)]
 enum Change {
     Plus(i128),
     Minus(i128),

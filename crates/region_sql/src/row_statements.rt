@@ -4,7 +4,7 @@ use mr_base::{Bytes, ListOf};
 
 /// A value as written. An integer of up to 30 digits is kept as it stands, so that one that is no i64
 /// is a fault of its own and no fault of syntax.
-#[derive(Debug, PartialEq, Eq, Drop)]
+#[derive(Drop)]
 pub enum Literal {
     Int(i128),
     Text(Bytes),
@@ -15,7 +15,7 @@ pub enum Literal {
 pub type Literals = ListOf<Literal>;
 
 /// How a term compares.
-#[derive(Clone, Copy, Debug, PartialEq, Eq)]
+#[derive(Clone, Copy)]
 pub enum Comparison {
     /// =
     Eq,
@@ -32,7 +32,7 @@ pub enum Comparison {
 }
 
 /// A condition of WHERE.
-#[derive(Debug, PartialEq, Eq, Drop)]
+#[derive(Drop)]
 pub struct Term {
     pub column: Bytes,
     pub op: Comparison,
@@ -40,7 +40,7 @@ pub struct Term {
 }
 
 /// What UPDATE sets a column to.
-#[derive(Debug, PartialEq, Eq, Drop)]
+#[derive(Drop)]
 pub enum Value {
     Literal(Literal),
     Column(Bytes),
@@ -51,14 +51,14 @@ pub enum Value {
 }
 
 /// A column that UPDATE sets.
-#[derive(Debug, PartialEq, Eq, Drop)]
+#[derive(Drop)]
 pub struct Target {
     pub column: Bytes,
     pub value: Value,
 }
 
 /// What SELECT answers.
-#[derive(Debug, PartialEq, Eq, Drop)]
+#[derive(Drop)]
 pub enum Wanted {
     /// *
     All,
@@ -68,7 +68,7 @@ pub enum Wanted {
 }
 
 /// A statement on the rows of one table.
-#[derive(Debug, PartialEq, Eq, Drop)]
+#[derive(Drop)]
 pub enum RowStatement {
     Insert {
         table: Bytes,

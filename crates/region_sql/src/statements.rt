@@ -8,7 +8,7 @@ use crate::row_statements::RowStatement;
 use mr_base::{ListOf, Memory};
 
 /// One statement.
-#[derive(Debug, PartialEq, Eq, Drop)]
+#[derive(Drop)]
 pub enum Statement {
     Region(RegionStatement),
     Row(RowStatement),
@@ -18,7 +18,7 @@ pub enum Statement {
 pub type List = ListOf<RowStatement>;
 
 /// Why a text is no statement or no list.
-#[derive(Clone, Copy, Debug, PartialEq, Eq)]
+#[derive(Clone, Copy)]
 pub enum ParseFault {
     /// No form fits; `at` is the place in bytes just after the longest run of tokens with which some
     /// form begins.

@@ -7,7 +7,7 @@ use mr_base::Memory;
 use std::alloc::{AllocError, AllocFailed};
 
 /// Why no form was read.
-#[derive(Clone, Copy, Debug, PartialEq, Eq)]
+#[derive(Clone, Copy)]
 pub(crate) enum Stuck {
     /// Memory ran out.
     Memory,

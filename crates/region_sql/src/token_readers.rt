@@ -1,9 +1,9 @@
 //! Readers of single tokens. Each answers what it read and the tokens after it.
 
-ghost use Rattle.std.specs.Prelude.{◌≡◌, [], ◌∷◌, true, false, drop, IfSome, IfNone};
+ghost use Rattle.std.specs.Prelude.{◌≡◌, [], ◌∷◌, true, false, drop, nat_eq, IfSome, IfNone};
 ghost use Rattle.region_sql.specs.Grammar.{word, mark, of_kind, column_type, equals, name, literal, compare, integer, taken_away};
 ghost use Rattle.region_sql.specs.Reading.{Gives, parse, begins, first};
-ghost use Rattle.region_sql.specs.Tokens.{key_number, soft_number, sign_number};
+ghost use Rattle.region_sql.specs.Tokens.{kind_of, key_number, soft_number, sign_number};
 
 use crate::region_statements::ColumnType;
 use crate::row_statements::{Comparison, Literal};
@@ -12,38 +12,34 @@ use crate::tokens::{Key, Sign, Soft, Token};
 use mr_base::{Bytes, CloneIn};
 use std::alloc::Global;
 
-/// Whether the first token is this key word.
-pub(crate) fn begins_with_key(tokens: &[Token], key: Key) -> bool
-    ensures { result ≡ begins (key_number key ∷ []) tokens.now }
+/// Whether the token is this key word.
+fn is_key(token: &Token, key: Key) -> bool
+    ensures { result ≡ nat_eq (key_number key) (kind_of token.now) }
 {
-    match tokens {
-        [Token::Key(found), ..] => *found as u8 == key as u8,
+    match token {
+        Token::Key(found) => key == *found,
         _ => false,
     }
 }
 
-/// Whether the first token is this sign.
-pub(crate) fn begins_with_sign(tokens: &[Token], sign: Sign) -> bool
-    ensures { result ≡ begins (sign_number sign ∷ []) tokens.now }
+/// Whether the token is this sign.
+fn is_sign(token: &Token, sign: Sign) -> bool
+    ensures { result ≡ nat_eq (sign_number sign) (kind_of token.now) }
 {
-    match tokens {
-        [Token::Sign(found), ..] => *found as u8 == sign as u8,
+    match token {
+        Token::Sign(found) => sign == *found,
         _ => false,
     }
 }
 
-/// Whether the first token is a literal.
-#[tactic(auto, unfolding(crate::specs::Grammar::literal))]
-pub(crate) fn begins_with_literal(tokens: &[Token]) -> bool
-    ensures { result ≡ begins (first literal) tokens.now }
+/// Whether the token is this soft key word.
+fn is_soft(token: &Token, soft: Soft) -> bool
+    ensures { result ≡ nat_eq (soft_number soft) (kind_of token.now) }
 {
-    matches!(
-        tokens,
-        [
-            Token::Integer(_) | Token::Negative { .. } | Token::Text(_) | Token::Bool(_),
-            ..
-        ]
-    )
+    match token {
+        Token::Soft(found) => soft == *found,
+        _ => false,
+    }
 }
 
 /// The tokens after this key word, where it is the first token.
@@ -52,10 +48,8 @@ pub(crate) fn after_key(tokens: &[Token], key: Key) -> Option<&[Token]>
         × (rest.now ≡ drop 1 tokens.now)) }
     ensures none { IfNone result (begins (key_number key ∷ []) tokens.now ≡ false) }
 {
-    match tokens {
-        [Token::Key(found), rest @ ..] if *found as u8 == key as u8 => Some(rest),
-        _ => None,
-    }
+    let (first, rest) = tokens.split_first()?;
+    if is_key(first, key) { Some(rest) } else { None }
 }
 
 /// The tokens after this sign, where it is the first token.
@@ -64,48 +58,88 @@ pub(crate) fn after_sign(tokens: &[Token], sign: Sign) -> Option<&[Token]>
         × (rest.now ≡ drop 1 tokens.now)) }
     ensures none { IfNone result (begins (sign_number sign ∷ []) tokens.now ≡ false) }
 {
-    match tokens {
-        [Token::Sign(found), rest @ ..] if *found as u8 == sign as u8 => Some(rest),
-        _ => None,
+    let (first, rest) = tokens.split_first()?;
+    if is_sign(first, sign) {
+        Some(rest)
+    } else {
+        None
     }
 }
 
-/// Passes this key word.
-pub(crate) fn pass_key(tokens: &[Token], key: Key) -> Result<&[Token], Stuck>
-    ensures { Gives (λ rest. (tt, rest.now)) result (parse (word key) tokens.now) }
+/// The tokens after this soft key word, where it is the first token.
+fn after_soft(tokens: &[Token], soft: Soft) -> Option<&[Token]>
+    ensures found { IfSome result (λ rest. (begins (soft_number soft ∷ []) tokens.now ≡ true)
+        × (rest.now ≡ drop 1 tokens.now)) }
+    ensures none { IfNone result (begins (soft_number soft ∷ []) tokens.now ≡ false) }
 {
-    match tokens {
-        [Token::Key(found), rest @ ..] if *found as u8 == key as u8 => Ok(rest),
-        _ => Err(Stuck::At(tokens.len())),
+    let (first, rest) = tokens.split_first()?;
+    if is_soft(first, soft) {
+        Some(rest)
+    } else {
+        None
     }
 }
 
-/// Passes this sign.
-pub(crate) fn pass_sign(tokens: &[Token], sign: Sign) -> Result<&[Token], Stuck>
-    ensures { Gives (λ rest. (tt, rest.now)) result (parse (mark sign) tokens.now) }
+/// Whether the first token is this key word.
+pub(crate) fn begins_with_key(tokens: &[Token], key: Key) -> bool
+    ensures { result ≡ begins (key_number key ∷ []) tokens.now }
 {
-    match tokens {
-        [Token::Sign(found), rest @ ..] if *found as u8 == sign as u8 => Ok(rest),
-        _ => Err(Stuck::At(tokens.len())),
-    }
+    after_key(tokens, key).is_some()
+}
+
+/// Whether the first token is this sign.
+pub(crate) fn begins_with_sign(tokens: &[Token], sign: Sign) -> bool
+    ensures { result ≡ begins (sign_number sign ∷ []) tokens.now }
+{
+    after_sign(tokens, sign).is_some()
 }
 
 /// Whether the first token is this soft key word.
 pub(crate) fn begins_with_soft(tokens: &[Token], soft: Soft) -> bool
     ensures { result ≡ begins (soft_number soft ∷ []) tokens.now }
 {
-    match tokens {
-        [Token::Soft(found), ..] => *found as u8 == soft as u8,
-        _ => false,
+    after_soft(tokens, soft).is_some()
+}
+
+/// Passes this key word.
+#[tactic(auto, using(crate::proofs::OneKind::passed, crate::proofs::OneKind::stuck_before))]
+pub(crate) fn pass_key(tokens: &[Token], key: Key) -> Result<&[Token], Stuck>
+    ensures { Gives (λ rest. (tt, rest.now)) result (parse (word key) tokens.now) }
+{
+    match after_key(tokens, key) {
+        Some(rest) => Ok(rest),
+        None => Err(Stuck::At(tokens.len())),
+    }
+}
+
+/// Passes this sign.
+#[tactic(auto, using(crate::proofs::OneKind::passed, crate::proofs::OneKind::stuck_before))]
+pub(crate) fn pass_sign(tokens: &[Token], sign: Sign) -> Result<&[Token], Stuck>
+    ensures { Gives (λ rest. (tt, rest.now)) result (parse (mark sign) tokens.now) }
+{
+    match after_sign(tokens, sign) {
+        Some(rest) => Ok(rest),
+        None => Err(Stuck::At(tokens.len())),
     }
 }
 
 /// Passes this soft key word.
+#[tactic(auto, using(crate::proofs::OneKind::passed, crate::proofs::OneKind::stuck_before))]
 pub(crate) fn pass_soft(tokens: &[Token], soft: Soft) -> Result<&[Token], Stuck>
     ensures { Gives (λ rest. (tt, rest.now)) result (parse (of_kind (soft_number soft)) tokens.now) }
 {
+    match after_soft(tokens, soft) {
+        Some(rest) => Ok(rest),
+        None => Err(Stuck::At(tokens.len())),
+    }
+}
+
+/// Passes `=`.
+pub(crate) fn pass_equals(tokens: &[Token]) -> Result<&[Token], Stuck>
+    ensures { Gives (λ rest. (tt, rest.now)) result (parse equals tokens.now) }
+{
     match tokens {
-        [Token::Soft(found), rest @ ..] if *found as u8 == soft as u8 => Ok(rest),
+        [Token::Compare(Comparison::Eq), rest @ ..] => Ok(rest),
         _ => Err(Stuck::At(tokens.len())),
     }
 }
@@ -121,14 +155,18 @@ pub(crate) fn type_of(tokens: &[Token]) -> Result<(ColumnType, &[Token]), Stuck>
     }
 }
 
-/// Passes `=`.
-pub(crate) fn pass_equals(tokens: &[Token]) -> Result<&[Token], Stuck>
-    ensures { Gives (λ rest. (tt, rest.now)) result (parse equals tokens.now) }
+/// Whether the first token is a literal.
+#[tactic(auto, unfolding(crate::specs::Grammar::literal))]
+pub(crate) fn begins_with_literal(tokens: &[Token]) -> bool
+    ensures { result ≡ begins (first literal) tokens.now }
 {
-    match tokens {
-        [Token::Compare(Comparison::Eq), rest @ ..] => Ok(rest),
-        _ => Err(Stuck::At(tokens.len())),
-    }
+    matches!(
+        tokens,
+        [
+            Token::Integer(_) | Token::Negative { .. } | Token::Text(_) | Token::Bool(_),
+            ..
+        ]
+    )
 }
 
 /// A name: a word that is no key word, or a quoted name.

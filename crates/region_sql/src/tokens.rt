@@ -1,7 +1,6 @@
 //! The tokens of statement texts.
 
 ghost use Rattle.std.specs.Prelude.{◌≡◌, IfOk};
-ghost use Rattle.region_sql.specs.Lexing.{key_text};
 ghost use Rattle.region_sql.specs.Tokens.{soft_text};
 
 use crate::region_statements::ColumnType;
@@ -10,7 +9,7 @@ use mr_base::{Bytes, Memory};
 use std::alloc::Global;
 
 /// A key word, written in any letter case. None is a name unless quoted.
-#[derive(Clone, Copy, Debug, PartialEq, Eq)]
+#[derive(Clone, Copy, PartialEq, Eq)]
 pub enum Key {
     Add,
     Alter,
@@ -50,7 +49,7 @@ pub enum Key {
 }
 
 /// A word that is a key word where a form has it, and a name elsewhere.
-#[derive(Clone, Copy, Debug, PartialEq, Eq)]
+#[derive(Clone, Copy, PartialEq, Eq)]
 pub enum Soft {
     Default,
     Placement,
@@ -58,7 +57,7 @@ pub enum Soft {
 }
 
 /// A sign that is no comparison.
-#[derive(Clone, Copy, Debug, PartialEq, Eq)]
+#[derive(Clone, Copy, PartialEq, Eq)]
 pub enum Sign {
     /// (
     Open,
@@ -77,7 +76,7 @@ pub enum Sign {
 }
 
 /// A token.
-#[derive(Debug, Drop)]
+#[derive(Drop)]
 pub enum Token {
     Key(Key),
     Soft(Soft),
@@ -106,50 +105,6 @@ impl Soft {
             Soft::Default => Bytes::from_slice(alloc, b"default"),
             Soft::Placement => Bytes::from_slice(alloc, b"placement"),
             Soft::Restricted => Bytes::from_slice(alloc, b"restricted"),
-        }
-    }
-}
-
-impl Key {
-    /// The word in lower case.
-    pub(crate) fn text(self) -> &'static [u8]
-        ensures { result.now ≡ key_text self }
-    {
-        match self {
-            Key::Add => b"add",
-            Key::Alter => b"alter",
-            Key::And => b"and",
-            Key::By => b"by",
-            Key::Count => b"count",
-            Key::Create => b"create",
-            Key::Database => b"database",
-            Key::Delete => b"delete",
-            Key::Drop => b"drop",
-            Key::Failure => b"failure",
-            Key::From => b"from",
-            Key::Global => b"global",
-            Key::In => b"in",
-            Key::Insert => b"insert",
-            Key::Into => b"into",
-            Key::Key => b"key",
-            Key::Locality => b"locality",
-            Key::Not => b"not",
-            Key::Null => b"null",
-            Key::Primary => b"primary",
-            Key::Region => b"region",
-            Key::Regional => b"regional",
-            Key::Regions => b"regions",
-            Key::Row => b"row",
-            Key::Select => b"select",
-            Key::Set => b"set",
-            Key::Survive => b"survive",
-            Key::Table => b"table",
-            Key::Unique => b"unique",
-            Key::Update => b"update",
-            Key::Use => b"use",
-            Key::Values => b"values",
-            Key::Where => b"where",
-            Key::Zone => b"zone",
         }
     }
 }

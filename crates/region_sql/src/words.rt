@@ -1,7 +1,9 @@
 //! The tokens of words.
 
-ghost use Rattle.std.specs.Prelude.{◌≡◌, List};
-ghost use Rattle.region_sql.specs.Lexing.{key_among, key_of, type_of, bool_of, soft_of, count_or_name, word_token};
+ghost use Rattle.std.specs.Prelude.{◌≡◌, map};
+ghost use Rattle.std.specs.Map.{lookup};
+ghost use Rattle.std.specs.Str.{bytes_eq};
+ghost use Rattle.region_sql.specs.Lexing.{key_of, type_of, bool_of, soft_of, count_or_name, word_token};
 
 use crate::byte_classes::opens;
 use crate::region_statements::ColumnType;
@@ -9,49 +11,67 @@ use crate::tokens::{Key, Soft, Token};
 use mr_base::Bytes;
 
 /// The words that are key words wherever they stand.
-const KEY_WORDS: [Key; 33] = [
-    Key::Add,
-    Key::Alter,
-    Key::And,
-    Key::By,
-    Key::Create,
-    Key::Database,
-    Key::Delete,
-    Key::Drop,
-    Key::Failure,
-    Key::From,
-    Key::Global,
-    Key::In,
-    Key::Insert,
-    Key::Into,
-    Key::Key,
-    Key::Locality,
-    Key::Not,
-    Key::Null,
-    Key::Primary,
-    Key::Region,
-    Key::Regional,
-    Key::Regions,
-    Key::Row,
-    Key::Select,
-    Key::Set,
-    Key::Survive,
-    Key::Table,
-    Key::Unique,
-    Key::Update,
-    Key::Use,
-    Key::Values,
-    Key::Where,
-    Key::Zone,
+const KEY_WORDS: [(&[u8], Key); 33] = [
+    (b"add", Key::Add),
+    (b"alter", Key::Alter),
+    (b"and", Key::And),
+    (b"by", Key::By),
+    (b"create", Key::Create),
+    (b"database", Key::Database),
+    (b"delete", Key::Delete),
+    (b"drop", Key::Drop),
+    (b"failure", Key::Failure),
+    (b"from", Key::From),
+    (b"global", Key::Global),
+    (b"in", Key::In),
+    (b"insert", Key::Insert),
+    (b"into", Key::Into),
+    (b"key", Key::Key),
+    (b"locality", Key::Locality),
+    (b"not", Key::Not),
+    (b"null", Key::Null),
+    (b"primary", Key::Primary),
+    (b"region", Key::Region),
+    (b"regional", Key::Regional),
+    (b"regions", Key::Regions),
+    (b"row", Key::Row),
+    (b"select", Key::Select),
+    (b"set", Key::Set),
+    (b"survive", Key::Survive),
+    (b"table", Key::Table),
+    (b"unique", Key::Unique),
+    (b"update", Key::Update),
+    (b"use", Key::Use),
+    (b"values", Key::Values),
+    (b"where", Key::Where),
+    (b"zone", Key::Zone),
 ];
 
-/// The key among these with this text.
-fn key_among(keys: &[Key], word: &[u8]) -> Option<Key>
-    ensures { result ≡ key_among keys.now word.now }
+/// The words for the types of columns.
+const TYPE_WORDS: [(&[u8], ColumnType); 6] = [
+    (b"int", ColumnType::Int),
+    (b"int8", ColumnType::Int),
+    (b"bigint", ColumnType::Int),
+    (b"string", ColumnType::String),
+    (b"text", ColumnType::String),
+    (b"bool", ColumnType::Bool),
+];
+
+const BOOL_WORDS: [(&[u8], bool); 2] = [(b"true", true), (b"false", false)];
+
+const SOFT_WORDS: [(&[u8], Soft); 3] = [
+    (b"default", Soft::Default),
+    (b"placement", Soft::Placement),
+    (b"restricted", Soft::Restricted),
+];
+
+/// What the word stands for in this table.
+fn look_up<T: Copy>(words: &[(&[u8], T)], word: &[u8]) -> Option<T>
+    ensures { result ≡ lookup (bytes_eq word.now) (map (λ w. (w.0.now, w.1)) words.now) }
 {
-    for key in keys {
-        if key.text() == word {
-            return Some(*key);
+    for entry in words {
+        if word == entry.0 {
+            return Some(entry.1);
         }
     }
     None
@@ -61,7 +81,7 @@ fn key_among(keys: &[Key], word: &[u8]) -> Option<Key>
 fn key_of(word: &[u8]) -> Option<Key>
     ensures { result ≡ key_of word.now }
 {
-    key_among(&KEY_WORDS, word)
+    look_up(&KEY_WORDS, word)
 }
 
 /// The type of a column that a word names.
@@ -69,45 +89,21 @@ fn key_of(word: &[u8]) -> Option<Key>
 fn type_of(word: &[u8]) -> Option<ColumnType>
     ensures { result ≡ type_of word.now }
 {
-    if word == b"int".as_slice() || word == b"int8".as_slice() || word == b"bigint".as_slice() {
-        return Some(ColumnType::Int);
-    }
-    if word == b"string".as_slice() || word == b"text".as_slice() {
-        return Some(ColumnType::String);
-    }
-    if word == b"bool".as_slice() {
-        return Some(ColumnType::Bool);
-    }
-    None
+    look_up(&TYPE_WORDS, word)
 }
 
 #[tactic(auto, unfolding(crate::specs::Lexing::bool_of))]
 fn bool_of(word: &[u8]) -> Option<bool>
     ensures { result ≡ bool_of word.now }
 {
-    if word == b"true".as_slice() {
-        return Some(true);
-    }
-    if word == b"false".as_slice() {
-        return Some(false);
-    }
-    None
+    look_up(&BOOL_WORDS, word)
 }
 
 #[tactic(auto, unfolding(crate::specs::Lexing::soft_of))]
 fn soft_of(word: &[u8]) -> Option<Soft>
     ensures { result ≡ soft_of word.now }
 {
-    if word == b"default".as_slice() {
-        return Some(Soft::Default);
-    }
-    if word == b"placement".as_slice() {
-        return Some(Soft::Placement);
-    }
-    if word == b"restricted".as_slice() {
-        return Some(Soft::Restricted);
-    }
-    None
+    look_up(&SOFT_WORDS, word)
 }
 
 /// `count` before `(`, or else a name.
