@@ -6,7 +6,7 @@ use region_sql::Goal;
 /// A zone configuration. `constraints` counts replicas in regions and `voter_constraints` voters;
 /// `lease` is the region that the lease prefers, the home region; a database without regions has no
 /// goal.
-#[derive(Debug, PartialEq, Eq, Drop)]
+#[derive(Drop)]
 pub struct ZoneConfig {
     pub num_replicas: u32,
     pub num_voters: u32,
