@@ -13,6 +13,3 @@ pub use laws::placed_where_one_fits;
 pub use majority::keeps_majority;
 pub use placed::place;
 pub use placement_types::{PlaceRefusal, Placement};
-
-#[cfg(test)]
-mod tests;

@@ -3,14 +3,14 @@
 use mr_base::{Bytes, ListOf, Memory, NodeId};
 
 /// The nodes that hold a range's replicas. The first voter is the first holder of the lease.
-#[derive(Debug, PartialEq, Eq, Drop)]
+#[derive(Drop)]
 pub struct Placement {
     pub voters: ListOf<NodeId>,
     pub others: ListOf<NodeId>,
 }
 
 /// Why a range isn't placed.
-#[derive(Debug, PartialEq, Eq, Drop)]
+#[derive(Drop)]
 pub enum PlaceRefusal {
     /// No placement fits: the home region lacks zones or nodes. `wanted` and `found` are numbers of
     /// zones of that region for zone survival, of its nodes where it has fewer than two, and of voters

@@ -1,4 +1,4 @@
-pub mod ExampleFacts
+pub mod OneColumn
 pub mod Forms
 pub mod JsonLemmas
 mod Formed

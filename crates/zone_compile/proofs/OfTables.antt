@@ -13,7 +13,7 @@ use Rattle.descriptors.specs.Sound.{FitsRegions, IsSoundDatabase, IsSoundIn}
 use Rattle.zone_compile.specs.declared.config.ZoneConfig.{ZoneConfig}
 use Rattle.zone_compile.specs.Configuration.{HasForm, IsAtHome, configuration_at, kept_at, spread_over, without_regions}
 use Rattle.zone_compile.specs.Laws.{FormsAreOfTables, IsOfTable}
-use Rattle.zone_compile.proofs.ExampleFacts.{name_is_text, one_column_is_sound, one_pairs}
+use Rattle.zone_compile.proofs.OneColumn.{name_is_text, one_column_is_sound, one_pairs}
 use Rattle.zone_compile.proofs.Forms.{has_form}
 
 -- The table t (id INT PRIMARY KEY) of the database d.

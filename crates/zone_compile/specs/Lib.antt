@@ -1,5 +1,4 @@
 pub mod Configuration
-pub mod Examples
 pub mod Json
 pub mod JsonMembers
 pub mod Laws

@@ -7,7 +7,7 @@ ghost use Rattle.descriptors.specs.Sound.{AreDistinct};
 ghost use Rattle.zone_compile.specs.Configuration.{HasForm, IsAtHome, kept_at, spread_over, without_regions};
 
 use crate::config::ZoneConfig;
-use mr_base::Bytes;
+use mr_base::{Bytes, is_utf8};
 use region_sql::Goal;
 
 /// Whether some database and table have this configuration.
@@ -43,7 +43,7 @@ fn is_kept_at(c: &ZoneConfig, home: &Bytes) -> bool
     requires lease { c.now.lease ≡ Some home.now }
     ensures { IsTrue result ↔ (IsUtf8 home.now × (c.now ≡ kept_at home.now)) }
 {
-    if !is_text(home) {
+    if !is_utf8(home.as_slice()) {
         return false;
     }
     if c.num_replicas != 3 || c.num_voters != 3 || c.global_reads {
@@ -140,17 +140,11 @@ fn is_only(counts: &[(Bytes, u32)], region: &Bytes, count: u32) -> bool
     first.1 == count
 }
 
-fn is_text(bytes: &Bytes) -> bool
-    ensures { IsTrue result ↔ IsUtf8 bytes.now }
-{
-    str::from_utf8(bytes.as_slice()).is_ok()
-}
-
 fn are_texts(counts: &[(Bytes, u32)]) -> bool
     ensures { IsTrue result ↔ All (λ k. IsUtf8 k.0) counts.now }
 {
     for count in counts {
-        if !is_text(&count.0) {
+        if !is_utf8(count.0.as_slice()) {
             return false;
         }
     }

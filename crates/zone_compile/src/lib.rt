@@ -15,6 +15,3 @@ pub use forming::is_form;
 pub use json_form::json;
 pub use laws::forms_are_of_tables;
 pub use text_form::text;
-
-#[cfg(test)]
-mod tests;

@@ -8,11 +8,9 @@ use Rattle.region_sql.specs.declared.region_statements.Locality.TheVariants as l
 use Rattle.descriptors.specs.declared.database.Database.{Database}
 use Rattle.descriptors.specs.declared.table.Table.{Table}
 use Rattle.descriptors.specs.Sound.{IsSoundDatabase}
-use Rattle.zone_compile.specs.declared.config.ZoneConfig.{ZoneConfig}
 use Rattle.zone_report.specs.declared.report.Format.{Format}
-use Rattle.zone_report.specs.declared.report.Format.TheVariants.{Text, Json}
 use Rattle.zone_report.specs.Ranges.{Range, partitions, range_at, ranges_in}
-use Rattle.zone_report.specs.Report.{config_line, json_line, lines_from, placement_line, range_lines}
+use Rattle.zone_report.specs.Report.{lines_from, range_lines}
 use Rattle.zone_report.proofs.Placeable.{flat_step, here, how_many}
 
 pub no_lines : (out : List ℕ) → out ++ [] ≡ out
@@ -49,26 +47,12 @@ more_lines f nodes n d t k next out0 out1 out2 lt size number written before =
 pub all_lines : (f : Format) (nodes : List NodeInfo) (n : ℕ) (d : Database) (t : Table) (k : ℕ) {m : ℕ} → m ≤ k → m ≡ partitions d t.locality → lines_from f nodes n (take k (ranges_in d t)) ≡ lines_from f nodes n (ranges_in d t)
 all_lines f nodes n d t k past size = ap (lines_from f nodes n) (take_all k (ranges_in d t) (omega (arith, past, size, how_many d t)))
 
--- What was written of a range.
-pub text_written : (nodes : List NodeInfo) (n : ℕ) (r : Range) (c : ZoneConfig) (p : Option (List ℕ)) (out0 out1 out2 : List ℕ) → c ≡ r.config → p ≡ r.partition → out1 ≡ out0 ++ config_line n r.table p c → out2 ≡ out1 ++ placement_line nodes c → out2 ≡ out0 ++ range_lines Text nodes n r
-text_written nodes n r c p out0 out1 out2 same region first second =
-    second ∙ ap (λ o. o ++ placement_line nodes c) first
-    ∙ append_assoc out0 (config_line n r.table p c) (placement_line nodes c)
-    ∙ ap (λ x. out0 ++ (config_line n r.table p x ++ placement_line nodes x)) same
-    ∙ ap (λ x. out0 ++ (config_line n r.table x r.config ++ placement_line nodes r.config)) region
-
-pub json_written : (nodes : List NodeInfo) (n : ℕ) (r : Range) (c : ZoneConfig) (p : Option (List ℕ)) (out0 out1 : List ℕ) → c ≡ r.config → p ≡ r.partition → out1 ≡ out0 ++ json_line n r.table p c → out1 ≡ out0 ++ range_lines Json nodes n r
-json_written nodes n r c p out0 out1 same region written =
-    written ∙ ap (λ x. out0 ++ json_line n r.table p x) same ∙ ap (λ x. out0 ++ json_line n r.table x r.config) region
-
 onward : (o front part o1 o2 : List ℕ) → o1 ≡ o ++ front → o2 ≡ o1 ++ part → o2 ≡ o ++ (front ++ part)
 onward o front part o1 o2 before now = now ∙ ap (λ l. l ++ part) before ∙ append_assoc o front part
 
--- Eight parts written one after the other.
-pub eight_parts : (a b c d e f g h o o1 o2 o3 o4 o5 o6 o7 o8 : List ℕ) → o1 ≡ o ++ a → o2 ≡ o1 ++ b → o3 ≡ o2 ++ c → o4 ≡ o3 ++ d → o5 ≡ o4 ++ e → o6 ≡ o5 ++ f → o7 ≡ o6 ++ g → o8 ≡ o7 ++ h → o8 ≡ o ++ (a ++ b ++ c ++ d ++ e ++ f ++ g ++ h)
-eight_parts a b c d e f g h o o1 o2 o3 o4 o5 o6 o7 o8 h1 h2 h3 h4 h5 h6 h7 h8 =
-    onward o (a ++ b ++ c ++ d ++ e ++ f ++ g) h o7 o8 (onward o (a ++ b ++ c ++ d ++ e ++ f) g o6 o7 (onward o (a ++ b ++ c ++ d ++ e) f o5 o6 (onward o (a ++ b ++ c ++ d) e o4 o5
-    (onward o (a ++ b ++ c) d o3 o4 (onward o (a ++ b) c o2 o3 (onward o a b o1 o2 h1 h2) h3) h4) h5) h6) h7) h8
+-- Three parts written one after the other.
+pub three_parts : (a b c o o1 o2 o3 : List ℕ) → o1 ≡ o ++ a → o2 ≡ o1 ++ b → o3 ≡ o2 ++ c → o3 ≡ o ++ (a ++ b ++ c)
+three_parts a b c o o1 o2 o3 h1 h2 h3 = onward o (a ++ b) c o2 o3 (onward o a b o1 o2 h1 h2) h3
 
 -- ---- the lines of tables
 

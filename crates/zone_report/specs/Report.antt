@@ -30,10 +30,13 @@ abbrev pub partition_text : Option (List ℕ) → List ℕ
 partition_text None = []
 partition_text (Some region) = codes "@" ++ region
 
--- A range's number, its table, the region of its partition and its configuration.
+-- What names a range: its number, its table and the region of its partition.
+abbrev pub range_name : ℕ → (table : List ℕ) → (partition : Option (List ℕ)) → List ℕ
+range_name number table partition = codes "r" ++ decimal number ++ codes " " ++ table ++ partition_text partition ++ codes ": "
+
+-- A range's name and its configuration.
 unfoldable pub config_line : ℕ → (table : List ℕ) → (partition : Option (List ℕ)) → ZoneConfig → List ℕ
-config_line number table partition config =
-    codes "r" ++ decimal number ++ codes " " ++ table ++ partition_text partition ++ codes ": " ++ config_text config ++ codes "\n"
+config_line number table partition config = range_name number table partition ++ config_text config ++ codes "\n"
 
 -- Where a range is placed.
 unfoldable pub placement_line : List NodeInfo → ZoneConfig → List ℕ

@@ -18,6 +18,3 @@ pub use refused::SqlRefusal;
 pub use regions::are_nodes;
 pub use report::Format;
 pub use zones::Zones;
-
-#[cfg(test)]
-mod tests;

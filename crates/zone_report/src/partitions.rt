@@ -40,10 +40,8 @@ pub(crate) fn region_of<'a>(
 ) -> Option<&'a Bytes>
     ensures { option_copied result ≡ (range_at database.now table.now partition).partition }
 {
-    match place_of(&table.locality, partition) {
-        Some(place) => database.regions.as_slice().get(place),
-        None => None,
-    }
+    let place = place_of(&table.locality, partition)?;
+    database.regions.as_slice().get(place)
 }
 
 /// The configuration of a range.

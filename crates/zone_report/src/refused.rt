@@ -8,7 +8,7 @@ use mr_base::{Bytes, Memory, SqlState};
 use std::alloc::Global;
 
 /// Why a statement is refused.
-#[derive(Debug, PartialEq, Eq, Drop)]
+#[derive(Drop)]
 pub enum SqlRefusal {
     /// A state of PostgreSQL's list: the text is no region statement, or what it names is missing or
     /// there already.

@@ -4,7 +4,7 @@ ghost use Rattle.std.specs.Prelude.{◌≡◌, ◌≢◌, ◌↔◌, ◌≤◌, 
 ghost use Rattle.descriptors.specs.Lists.{has_name};
 ghost use Rattle.zone_report.specs.Nodes.{AreNodes, AreNumbered, regions_of, with_region};
 
-use mr_base::{Bytes, CloneIn, ListOf, Memory, NodeInfo};
+use mr_base::{Bytes, CloneIn, ListOf, Memory, NodeInfo, is_utf8};
 use std::alloc::Global;
 
 /// The regions in the order in which the nodes first name them.
@@ -69,15 +69,9 @@ fn have_texts(nodes: &[NodeInfo]) -> bool
     ensures { IsTrue result ↔ All (λ s. IsUtf8 s.region) nodes.now }
 {
     for node in nodes {
-        if !is_text(node.region.as_slice()) {
+        if !is_utf8(node.region.as_slice()) {
             return false;
         }
     }
     true
-}
-
-fn is_text(bytes: &[u8]) -> bool
-    ensures { IsTrue result ↔ IsUtf8 bytes.now }
-{
-    str::from_utf8(bytes).is_ok()
 }

@@ -9,7 +9,7 @@ ghost use Rattle.placement.specs.Placing.{lack_of};
 ghost use Rattle.zone_report.specs.Nodes.{Serve};
 ghost use Rattle.zone_report.specs.Ranges.{partitions, range_at, ranges, ranges_in, ranges_of_table};
 ghost use Rattle.zone_report.specs.Refusals.{first_lack, lack_in, unplaceable};
-ghost use Rattle.zone_report.specs.Report.{config_line, json_line, lines_from, placement_line, range_lines};
+ghost use Rattle.zone_report.specs.Report.{config_line, json_line, lines_from, placement_line, range_lines, range_name};
 
 use crate::line_parts::{put, put_number, put_partition, put_placement};
 use crate::partitions::{config_at, partitions, region_of};
@@ -40,109 +40,99 @@ pub(crate) fn report_of(
     ensures { IfOk result (λ text. text ≡ lines_from format nodes.now 1 (ranges catalog.now)) }
 {
     let mut out = Vec::new(alloc);
+    let lines = Lines {
+        alloc,
+        nodes,
+        format,
+    };
     let mut number = 1;
     for table in catalog.tables() {
-        number = put_table(alloc, &mut out, nodes, catalog, table, number, format)?;
+        number = lines.put_table(&mut out, catalog, table, number)?;
     }
     Ok(Bytes::from_vec(out))
 }
 
-/// Adds the lines of a table's ranges: the number of the next range.
-fn put_table(
+/// How the lines of ranges are written, and over which nodes.
+#[derive(Drop)]
+struct Lines<'a> {
     alloc: Global,
-    out: &mut Vec<u8>,
-    nodes: &[NodeInfo],
-    catalog: &Catalog,
-    table: &Table,
-    number: u32,
+    nodes: &'a [NodeInfo],
     format: Format,
-) -> Result<u32, Memory>
-    requires nodes { Serve nodes.now catalog.now.regions }
-    requires placed { first_lack nodes.now (ranges_of_table catalog.now.databases table.now) ≡ None }
-    requires table { Contains catalog.now.tables table.now }
-    requires few { number ≤ 65536 }
-    ensures lines { OnOk result (out.new.items ≡ out.old.items ++ lines_from format nodes.now number (ranges_of_table catalog.now.databases table.now)) }
-    ensures number { IfOk result (λ next. next ≡ number + length (ranges_of_table catalog.now.databases table.now)) }
-    ensures few { IfOk result (λ next. next ≤ number + 16) }
-{
-    let Some(database) = catalog.database(table.database.as_slice()) else {
-        return Ok(number);
-    };
-    put_ranges(alloc, out, nodes, database, table, number, format)
 }
 
-fn put_ranges(
-    alloc: Global,
-    out: &mut Vec<u8>,
-    nodes: &[NodeInfo],
-    database: &Database,
-    table: &Table,
-    number: u32,
-    format: Format,
-) -> Result<u32, Memory>
-    requires database { IsSoundDatabase database.now }
-    requires table { IsSoundIn database.now table.now }
-    requires nodes { Serve nodes.now database.now.regions }
-    requires placed { first_lack nodes.now (ranges_in database.now table.now) ≡ None }
-    requires few { number ≤ 65536 }
-    ensures lines { OnOk result (out.new.items ≡ out.old.items ++ lines_from format nodes.now number (ranges_in database.now table.now)) }
-    ensures number { IfOk result (λ next. next ≡ number + length (ranges_in database.now table.now)) }
-    ensures few { IfOk result (λ next. next ≤ number + 16) }
-{
-    let mut next = number;
-    for partition in 0..partitions(database, &table.locality) {
-        put_range(alloc, out, nodes, database, table, partition, next, format)?;
-        next += 1;
+impl Lines<'_> {
+    /// Adds the lines of a table's ranges: the number of the next range.
+    fn put_table(
+        &self,
+        out: &mut Vec<u8>,
+        catalog: &Catalog,
+        table: &Table,
+        number: u32,
+    ) -> Result<u32, Memory>
+        requires nodes { Serve self.now.nodes.now catalog.now.regions }
+        requires placed { first_lack self.now.nodes.now (ranges_of_table catalog.now.databases table.now) ≡ None }
+        requires table { Contains catalog.now.tables table.now }
+        requires few { number ≤ 65536 }
+        ensures lines { OnOk result (out.new.items ≡ out.old.items ++ lines_from self.now.format self.now.nodes.now number (ranges_of_table catalog.now.databases table.now)) }
+        ensures number { IfOk result (λ next. next ≡ number + length (ranges_of_table catalog.now.databases table.now)) }
+        ensures few { IfOk result (λ next. next ≤ number + 16) }
+    {
+        let Some(database) = catalog.database(table.database.as_slice()) else {
+            return Ok(number);
+        };
+        self.put_ranges(out, database, table, number)
     }
-    Ok(next)
-}
 
-/// Adds the lines of a range.
-fn put_range(
-    alloc: Global,
-    out: &mut Vec<u8>,
-    nodes: &[NodeInfo],
-    database: &Database,
-    table: &Table,
-    partition: usize,
-    number: u32,
-    format: Format,
-) -> Result<(), Memory>
-    requires database { IsSoundDatabase database.now }
-    requires table { IsSoundIn database.now table.now }
-    requires partition { partition < partitions database.now table.now.locality }
-    requires nodes { Serve nodes.now database.now.regions }
-    requires placed { lack_in nodes.now (range_at database.now table.now partition) ≡ None }
-    ensures { OnOk result (out.new.items ≡ out.old.items ++ range_lines format nodes.now number (range_at database.now table.now partition)) }
-{
-    match format {
-        Format::Text => put_text(alloc, out, nodes, database, table, partition, number),
-        Format::Json => put_json(alloc, out, nodes, database, table, partition, number),
+    fn put_ranges(
+        &self,
+        out: &mut Vec<u8>,
+        database: &Database,
+        table: &Table,
+        number: u32,
+    ) -> Result<u32, Memory>
+        requires database { IsSoundDatabase database.now }
+        requires table { IsSoundIn database.now table.now }
+        requires nodes { Serve self.now.nodes.now database.now.regions }
+        requires placed { first_lack self.now.nodes.now (ranges_in database.now table.now) ≡ None }
+        requires few { number ≤ 65536 }
+        ensures lines { OnOk result (out.new.items ≡ out.old.items ++ lines_from self.now.format self.now.nodes.now number (ranges_in database.now table.now)) }
+        ensures number { IfOk result (λ next. next ≡ number + length (ranges_in database.now table.now)) }
+        ensures few { IfOk result (λ next. next ≤ number + 16) }
+    {
+        let mut next = number;
+        for partition in 0..partitions(database, &table.locality) {
+            self.put_range(out, database, table, partition, next)?;
+            next += 1;
+        }
+        Ok(next)
     }
-}
 
-/// Adds the two lines of a range.
-fn put_text(
-    alloc: Global,
-    out: &mut Vec<u8>,
-    nodes: &[NodeInfo],
-    database: &Database,
-    table: &Table,
-    partition: usize,
-    number: u32,
-) -> Result<(), Memory>
-    requires database { IsSoundDatabase database.now }
-    requires table { IsSoundIn database.now table.now }
-    requires partition { partition < partitions database.now table.now.locality }
-    requires nodes { Serve nodes.now database.now.regions }
-    requires placed { lack_in nodes.now (range_at database.now table.now partition) ≡ None }
-    ensures { OnOk result (out.new.items ≡ out.old.items ++ range_lines Format.Text nodes.now number (range_at database.now table.now partition)) }
-{
-    let config = config_at(alloc, database, table, partition)?;
-    let region = region_of(database, table, partition);
-    put_config(alloc, out, number, &table.name, region, &config)?;
-    put_placed(alloc, out, nodes, &config)?;
-    Ok(())
+    /// Adds the lines of a range.
+    fn put_range(
+        &self,
+        out: &mut Vec<u8>,
+        database: &Database,
+        table: &Table,
+        partition: usize,
+        number: u32,
+    ) -> Result<(), Memory>
+        requires database { IsSoundDatabase database.now }
+        requires table { IsSoundIn database.now table.now }
+        requires partition { partition < partitions database.now table.now.locality }
+        requires nodes { Serve self.now.nodes.now database.now.regions }
+        requires placed { lack_in self.now.nodes.now (range_at database.now table.now partition) ≡ None }
+        ensures { OnOk result (out.new.items ≡ out.old.items ++ range_lines self.now.format self.now.nodes.now number (range_at database.now table.now partition)) }
+    {
+        let config = config_at(self.alloc, database, table, partition)?;
+        let region = region_of(database, table, partition);
+        match self.format {
+            Format::Text => {
+                put_config(self.alloc, out, number, &table.name, region, &config)?;
+                put_placed(self.alloc, out, self.nodes, &config)
+            }
+            Format::Json => put_json(self.alloc, out, number, &table.name, region, &config),
+        }
+    }
 }
 
 /// Adds the line of a configuration.
@@ -157,15 +147,28 @@ fn put_config(
     ensures { OnOk result (out.new.items ≡ out.old.items ++ config_line number table.now (option_copied partition.entry) config.now) }
 {
     let text = text(alloc, config)?;
+    put_name(alloc, out, number, table, partition)?;
+    put(out, text.as_slice())?;
+    put(out, b"\n")?;
+    Ok(())
+}
+
+/// Adds what names a range: its number, its table and the region of its partition.
+fn put_name(
+    alloc: Global,
+    out: &mut Vec<u8>,
+    number: u32,
+    table: &Bytes,
+    partition: Option<&Bytes>,
+) -> Result<(), Memory>
+    ensures { OnOk result (out.new.items ≡ out.old.items ++ range_name number table.now (option_copied partition.entry)) }
+{
     put(out, b"r")?;
     put_number(alloc, out, number)?;
     put(out, b" ")?;
     put(out, table.as_slice())?;
     put_partition(out, partition)?;
-    put(out, b": ")?;
-    put(out, text.as_slice())?;
-    put(out, b"\n")?;
-    Ok(())
+    put(out, b": ")
 }
 
 /// Adds the line of a placement.
@@ -192,28 +195,8 @@ fn put_placed(
 }
 
 /// Adds the line of a range as JSON.
-fn put_json(
-    alloc: Global,
-    out: &mut Vec<u8>,
-    nodes: &[NodeInfo],
-    database: &Database,
-    table: &Table,
-    partition: usize,
-    number: u32,
-) -> Result<(), Memory>
-    requires database { IsSoundDatabase database.now }
-    requires table { IsSoundIn database.now table.now }
-    requires partition { partition < partitions database.now table.now.locality }
-    ensures { OnOk result (out.new.items ≡ out.old.items ++ range_lines Format.Json nodes.now number (range_at database.now table.now partition)) }
-{
-    let config = config_at(alloc, database, table, partition)?;
-    let region = region_of(database, table, partition);
-    put_json_line(alloc, out, number, &table.name, region, &config)?;
-    Ok(())
-}
-
 #[tactic(auto, unfolding(crate::specs::Report::json_line))]
-fn put_json_line(
+fn put_json(
     alloc: Global,
     out: &mut Vec<u8>,
     number: u32,
@@ -226,10 +209,7 @@ fn put_json_line(
     requires texts { NamesTexts config.now }
     ensures { OnOk result (out.new.items ≡ out.old.items ++ json_line number table.now (option_copied partition.entry) config.now) }
 {
-    let partition = match partition {
-        Some(region) => Some(region.as_slice()),
-        None => None,
-    };
+    let partition = partition.map(|region| region.as_slice());
     let line = json(alloc, config, RangeId(number), table.as_slice(), partition)?;
     put(out, line.as_slice())?;
     put(out, b"\n")?;

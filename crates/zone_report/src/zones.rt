@@ -91,11 +91,8 @@ impl Zones {
         ensures changed { OnOk result (self.new ≡ record self.old { contents = after self.old.contents s.now }) }
         ensures unchanged { OnErr result (self.new ≡ self.old) }
     {
-        match self.catalog.apply(s) {
-            Ok(()) => Ok(None),
-            Err(CatalogRefusal::Memory) => Err(Memory),
-            Err(_) => unreachable!(),
-        }
+        apply(&mut self.catalog, s)?;
+        Ok(None)
     }
 
     /// Carries out a statement, unless some range could not be placed afterwards.
@@ -122,11 +119,8 @@ impl Zones {
         ensures { IfOk result (λ changed. changed ≡ after self.now.contents s.now) }
     {
         let mut changed = self.catalog.clone_in(self.alloc)?;
-        match changed.apply(s) {
-            Ok(()) => Ok(changed),
-            Err(CatalogRefusal::Memory) => Err(Memory),
-            Err(_) => unreachable!(),
-        }
+        apply(&mut changed, s)?;
+        Ok(changed)
     }
 
     /// The configuration of each range, and as text its placement too, in table and then region order.
@@ -146,5 +140,19 @@ fn refused(refusal: CatalogRefusal) -> Result<Option<SqlRefusal>, Memory>
         CatalogRefusal::State(state) => Ok(Some(SqlRefusal::State(state))),
         CatalogRefusal::D(number) => Ok(Some(SqlRefusal::D(number))),
         CatalogRefusal::Memory => Err(Memory),
+    }
+}
+
+/// Carries out a statement that the catalog accepts.
+fn apply(catalog: &mut Catalog, s: &RegionStatement) -> Result<(), Memory>
+    requires names { NewNamesAreUtf8 s.now }
+    requires accepted { catalog_refusal catalog.old s.now ≡ None }
+    ensures changed { OnOk result (catalog.new ≡ after catalog.old s.now) }
+    ensures unchanged { OnErr result (catalog.new ≡ catalog.old) }
+{
+    match catalog.apply(s) {
+        Ok(()) => Ok(()),
+        Err(CatalogRefusal::Memory) => Err(Memory),
+        Err(_) => unreachable!(),
     }
 }

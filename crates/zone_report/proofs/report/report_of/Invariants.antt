@@ -6,6 +6,6 @@ use Rattle.zone_report.proofs.report.report_of.Given as goal
 
 abbrev pub invariant-loop-table : goal.invariant-loop-table
 invariant-loop-table l =
-    (l.out.items ≡ lines_from l.format l.nodes 1 (flat_map (ranges_of_table l.catalog.databases) (take l.table-index l.table-items)))
+    (l.out.items ≡ lines_from l.fn.format l.fn.nodes 1 (flat_map (ranges_of_table l.catalog.databases) (take l.table-index l.table-items)))
     × (l.number ≡ 1 + length (flat_map (ranges_of_table l.catalog.databases) (take l.table-index l.table-items)))
     × (l.number ≤ 1 + 16 * l.table-index)
