@@ -13,4 +13,6 @@ pub mod Outcomes
 pub mod Placing
 pub mod Plain
 pub mod Samples
+pub mod TextForms
+pub mod TextTokens
 pub mod Texts
