@@ -44,7 +44,7 @@ pub record IsPairOf (t : Table) (region : Option (List ℕ)) (row : List Datum) 
   pub lengths : All HasLength row
   pub pair : p ≡ row_pair t row
 
--- These pairs put into others, one after the other: of two with one key the later stands.
-abbrev pub put_all : List KeyValue → List KeyValue → List KeyValue
+-- Entries by key put into others, one after the other: of two with one key the later stands.
+abbrev pub put_all : {X : Type 0} → List (List ℕ × X) → List (List ℕ × X) → List (List ℕ × X)
 put_all [] pairs = pairs
 put_all (p ∷ ps) pairs = put_all ps (put bytes_cmp p.0 p.1 pairs)
