@@ -9,19 +9,19 @@ use Rattle.descriptors.specs.declared.table.Table.{Table}
 use Rattle.row_locality.specs.Rows.{HasType, indexes, key_of}
 
 -- An INT plus 2^63, which orders as the INT does.
-abbrev pub biased : ℤ → ℕ
-biased (pos n) = 2 ^ 63 + n
-biased (negsuc n) = 2 ^ 63 - 1 - n
+abbrev pub biased_int : ℤ → ℕ
+biased_int (pos n) = 2 ^ 63 + n
+biased_int (negsuc n) = 2 ^ 63 - 1 - n
 
 -- A zero byte within a text is followed by 255.
-abbrev pub escaped : ℕ → List ℕ
-escaped b = if b == 0 then 0 ∷ 255 ∷ [] else b ∷ []
+abbrev pub escaped_byte : ℕ → List ℕ
+escaped_byte b = if b == 0 then 0 ∷ 255 ∷ [] else b ∷ []
 
 -- A value in a key. INT: eight bytes of the biased value, the highest first. STRING: its bytes, escaped,
 -- then 0 and 1. BOOL: 0 or 1.
 unfoldable pub key_part : Datum → List ℕ
-key_part (datums.Int n) = to_be_bytes w64 (biased n)
-key_part (datums.Text s) = flat_map escaped s ++ 0 ∷ 1 ∷ []
+key_part (datums.Int n) = to_be_bytes w64 (biased_int n)
+key_part (datums.Text s) = flat_map escaped_byte s ++ 0 ∷ 1 ∷ []
 key_part (datums.Bool b) = from_bool b ∷ []
 
 -- A key of an index: the index's number, then the values of its columns. Keys of one index order by

@@ -104,9 +104,9 @@ abbrev pub pairs_of_row : Layout → RangeId → ℕ → Table → List Datum �
 pairs_of_row l range place t row = if (range_of l place t row).0 == range.0 then pairs_of t row else []
 
 -- The pairs of all rows that live in a range, table by table.
-abbrev pub pairs_in : Layout → PlainDatabase → RangeId → List KeyValue
-pairs_in l d range = flat_map (λ x. flat_map (pairs_of_row l range x.0 x.1) (d x.0)) (enumerate_from 0 l.catalog.tables)
+abbrev pub pairs_of_rows : Layout → PlainDatabase → RangeId → List KeyValue
+pairs_of_rows l d range = flat_map (λ x. flat_map (pairs_of_row l range x.0 x.1) (d x.0)) (enumerate_from 0 l.catalog.tables)
 
 -- What a range holds: the pairs of its rows, in the order of their keys.
-unfoldable pub held : Layout → PlainDatabase → RangeId → List KeyValue
-held l d range = put_all (pairs_in l d range) []
+unfoldable pub range_pairs : Layout → PlainDatabase → RangeId → List KeyValue
+range_pairs l d range = put_all (pairs_of_rows l d range) []

@@ -63,12 +63,12 @@ row_of t region p = option_and_then (λ values. if_keyed t p.0 (values ++ region
 -- ---- keys
 
 -- The INT of a biased value.
-abbrev pub unbiased : ℕ → ℤ
-unbiased n = if nat_lt n (2 ^ 63) then negsuc (2 ^ 63 - 1 - n) else pos (n - 2 ^ 63)
+abbrev pub int_of_biased : ℕ → ℤ
+int_of_biased n = if nat_lt n (2 ^ 63) then negsuc (2 ^ 63 - 1 - n) else pos (n - 2 ^ 63)
 
 -- Eight bytes of a biased value, the highest first.
 unfoldable pub key_int_at : List ℕ → Option (Datum × List ℕ)
-key_int_at bytes = if nat_lt (length bytes) 8 then None else Some (datums.Int (unbiased (from_be_bytes w64 (take 8 bytes))), drop 8 bytes)
+key_int_at bytes = if nat_lt (length bytes) 8 then None else Some (datums.Int (int_of_biased (from_be_bytes w64 (take 8 bytes))), drop 8 bytes)
 
 -- The bytes up to 0 and 1, each 0 in them being followed by 255, behind those that were read before.
 unfoldable pub unescaped_at : List ℕ → List ℕ → Option (List ℕ × List ℕ)

@@ -32,5 +32,5 @@ reshaped_rows c (Some old) None rows = []
 
 -- A plain database after its catalog became another: a table that was there keeps its rows, reshaped, and a
 -- new table has none.
-abbrev pub reshaped : (old new : Contents) → PlainDatabase → PlainDatabase
-reshaped old new d place = reshaped_rows new (slice_get old.tables place) (slice_get new.tables place) (d place)
+abbrev pub reshaped_database : (old new : Contents) → PlainDatabase → PlainDatabase
+reshaped_database old new d place = reshaped_rows new (slice_get old.tables place) (slice_get new.tables place) (d place)

@@ -1,9 +1,9 @@
 -- The rows of a table: the types of their values, and the orders of values and keys. Source: PostgreSQL's
 -- types of the same names and CockroachDB's documentation of REGIONAL BY ROW, in this project's profile.
-use Rattle.std.specs.Prelude.{ℕ, Bool, true, false, if◌then◌else◌, ⊤, List, [], ◌∷◌, ◌++◌, length, map, filter_map, slice_get, Option, Some, None, option_and_then, FitsSigned, IsUtf8, codes}
+use Rattle.std.specs.Prelude.{ℕ, ◌+◌, ◌==◌, Bool, true, false, if◌then◌else◌, ⊤, List, [], ◌∷◌, ◌++◌, length, map, filter_map, slice_get, Option, Some, None, option_and_then, FitsSigned, IsUtf8, codes}
 use Rattle.std.specs.Cmp.Lexicographic.{slice_cmp}
 use Rattle.std.specs.Int.{w64}
-use Rattle.std.specs.List.{AllZip}
+use Rattle.std.specs.List.{AllZip, position_or_len}
 use Rattle.std.specs.Ordering.{nat_cmp, int_cmp, bool_cmp, eq_by_cmp, on}
 use Rattle.std.specs.declared.cmp.Ordering.{Ordering}
 use Rattle.std.specs.declared.cmp.Ordering.TheVariants.{Less, Greater}
@@ -87,6 +87,10 @@ unique_indexes t = map (λ c. c ∷ []) t.unique
 -- in the columns of one index.
 abbrev pub indexes : Table → List (List ℕ)
 indexes t = t.key ∷ unique_indexes t
+
+-- The number of the index of a UNIQUE column.
+abbrev pub index_of : Table → ℕ → ℕ
+index_of t column = 1 + position_or_len (λ c. c == column) t.unique
 
 -- The values of a row in these columns.
 abbrev pub values_at : List ℕ → List Datum → List Datum

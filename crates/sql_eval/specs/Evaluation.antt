@@ -20,11 +20,11 @@ use Rattle.row_locality.specs.Reading.{row_of, primary_of}
 use Rattle.row_locality.specs.Values.{is_small}
 use Rattle.sql_eval.specs.RowWords.{matches, default_region, made_rows, changed_rows, shown_rows, has_twins}
 use Rattle.sql_eval.specs.Faults.{check_fault}
-use Rattle.sql_eval.specs.Execution.{Named, named, table_name, counted, selected}
+use Rattle.sql_eval.specs.Execution.{Named, named_table, table_name, count_answer, rows_answer}
 use Rattle.sql_eval.specs.Reads.{Reads}
-use Rattle.sql_eval.specs.OwnWrites.{OwnWrite, OwnWrites, removal, addition, with_writes, through}
-use Rattle.sql_eval.specs.Search.{Evaluation, gives, faults, needs, ◌>>=◌, before, of_result, Lookup, Answer, search}
-use Rattle.sql_eval.specs.Lookups.{index_for, searched, finding, at_key, of_new_rows, of_changed_rows}
+use Rattle.sql_eval.specs.OwnWrites.{OwnWrite, OwnWrites, removal, addition, with_writes, reads_through}
+use Rattle.sql_eval.specs.Search.{Evaluation, gives, faults, needs, ◌>>=◌, followed_by, of_result, Lookup, Answer, search}
+use Rattle.sql_eval.specs.Lookups.{index_for, searched_partitions, row_lookups, primary_lookup, new_row_lookups, changed_row_lookups}
 
 -- ---- the rows that match
 
@@ -43,8 +43,8 @@ abbrev pub rows_in : Table → Answer → List KeyedRow
 rows_in t a = filter_map (keyed_row t a.0.partition.region) a.1
 
 -- The rows that match among the answers of a search, in the order of their keys.
-unfoldable pub matched : Table → List Term → List Answer → List KeyedRow
-matched t terms answers = filter (λ x. matches t terms x.1) (put_all (flat_map (rows_in t) answers) [])
+unfoldable pub matched_rows : Table → List Term → List Answer → List KeyedRow
+matched_rows t terms answers = filter (λ x. matches t terms x.1) (put_all (flat_map (rows_in t) answers) [])
 
 abbrev pub has_pair : Answer → Bool
 has_pair a = not (length a.1 == 0)
@@ -56,22 +56,22 @@ ends_at (Some x) a = has_pair a
 
 -- The primary key to which the first pair of an answer leads, in its partition.
 abbrev pub led_to : Table → ℕ → Answer → Option Lookup
-led_to t number a = option_map (λ key. at_key key a.0.partition) (option_and_then (primary_of t number) (slice_get a.1 0))
+led_to t number a = option_map (λ key. primary_lookup key a.0.partition) (option_and_then (primary_of t number) (slice_get a.1 0))
 
 abbrev pub at_primary : Table → ℕ → List Answer → List Lookup
 at_primary t number answers = flat_map (λ a. option_to_list (led_to t number a)) answers
 
 -- A search by a secondary index goes on to the row itself.
-abbrev pub followed : Reads → Table → Option (ℕ × List Datum) → List Answer → Evaluation (List Answer)
-followed reads t None answers = gives answers
-followed reads t (Some x) answers = if x.0 == 0 then gives answers else search reads (λ a. false) (at_primary t x.0 answers)
+abbrev pub followed_answers : Reads → Table → Option (ℕ × List Datum) → List Answer → Evaluation (List Answer)
+followed_answers reads t None answers = gives answers
+followed_answers reads t (Some x) answers = if x.0 == 0 then gives answers else search reads (λ a. false) (at_primary t x.0 answers)
 
 -- The rows that match, by at most two searches.
-unfoldable pub found : Reads → Table → List ℕ → List Partition → List Term → Evaluation (List KeyedRow)
-found reads t gateway ps terms =
-    before 1 (search reads (ends_at (index_for t terms)) (finding gateway (index_for t terms) (searched terms ps))) >>= λ first.
-    followed reads t (index_for t terms) first >>= λ answers.
-    gives (matched t terms answers)
+unfoldable pub found_rows : Reads → Table → List ℕ → List Partition → List Term → Evaluation (List KeyedRow)
+found_rows reads t gateway ps terms =
+    followed_by 1 (search reads (ends_at (index_for t terms)) (row_lookups gateway (index_for t terms) (searched_partitions terms ps))) >>= λ first.
+    followed_answers reads t (index_for t terms) first >>= λ answers.
+    gives (matched_rows t terms answers)
 
 -- ---- rows that must not be there
 
@@ -97,7 +97,7 @@ pub record Outcome : Type 0 where
   pub writes : List OwnWrite
 
 abbrev pub rows_of : List KeyedRow → List (List Datum)
-rows_of found = map (λ x. x.1) found
+rows_of keyed = map (λ x. x.1) keyed
 
 abbrev pub removals_of : Layout → Named → List Datum → List OwnWrite
 removals_of l n row = map (removal (range_of l n.place n.table row)) (pairs_of n.table row)
@@ -117,48 +117,48 @@ partitions_of l n = partitions l n.place n.table
 
 -- A statement without a fault of its own. The pairs of the rows that go are removed, then those of the rows
 -- that come are added.
-unfoldable pub evaluated : Layout → List ℕ → Reads → Named → RowStatement → Evaluation Outcome
-evaluated l gateway reads n (Insert table names literals) =
+unfoldable pub table_outcome : Layout → List ℕ → Reads → Named → RowStatement → Evaluation Outcome
+table_outcome l gateway reads n (Insert table names literals) =
     of_result (made_rows n.table (default_region n.database gateway) names literals) >>= λ made.
-    if_free reads n.table [] (of_new_rows n.table (partitions_of l n) made) made >>= λ _.
-    gives (record { answer = counted verbs.Insert (length made); writes = additions l n made })
-evaluated l gateway reads n (Select table wanted terms) =
-    found reads n.table gateway (partitions_of l n) terms >>= λ old.
-    gives (record { answer = selected (shown_rows n.table wanted (rows_of old)); writes = [] })
-evaluated l gateway reads n (Update table targets terms) =
-    before 1 (found reads n.table gateway (partitions_of l n) terms) >>= λ old.
+    if_free reads n.table [] (new_row_lookups n.table (partitions_of l n) made) made >>= λ _.
+    gives (record { answer = count_answer verbs.Insert (length made); writes = additions l n made })
+table_outcome l gateway reads n (Select table wanted terms) =
+    found_rows reads n.table gateway (partitions_of l n) terms >>= λ old.
+    gives (record { answer = rows_answer (shown_rows n.table wanted (rows_of old)); writes = [] })
+table_outcome l gateway reads n (Update table targets terms) =
+    followed_by 1 (found_rows reads n.table gateway (partitions_of l n) terms) >>= λ old.
     of_result (changed_rows n.table targets (rows_of old)) >>= λ new.
-    if_free reads n.table old (of_changed_rows n.table (partitions_of l n) (rows_of old) new) new >>= λ _.
-    gives (record { answer = counted verbs.Update (length new); writes = removals l n (rows_of old) ++ additions l n new })
-evaluated l gateway reads n (Delete table terms) =
-    found reads n.table gateway (partitions_of l n) terms >>= λ old.
-    gives (record { answer = counted verbs.Delete (length old); writes = removals l n (rows_of old) })
+    if_free reads n.table old (changed_row_lookups n.table (partitions_of l n) (rows_of old) new) new >>= λ _.
+    gives (record { answer = count_answer verbs.Update (length new); writes = removals l n (rows_of old) ++ additions l n new })
+table_outcome l gateway reads n (Delete table terms) =
+    found_rows reads n.table gateway (partitions_of l n) terms >>= λ old.
+    gives (record { answer = count_answer verbs.Delete (length old); writes = removals l n (rows_of old) })
 
 abbrev pub unless : {A : Type 0} → Option SqlState → Evaluation A → Evaluation A
 unless None e = e
 unless (Some code) e = faults code
 
-abbrev pub evaluated_on : Layout → List ℕ → Reads → RowStatement → Named → Evaluation Outcome
-evaluated_on l gateway reads s n = unless (check_fault n.table n.database s) (evaluated l gateway reads n s)
+abbrev pub checked_outcome : Layout → List ℕ → Reads → RowStatement → Named → Evaluation Outcome
+checked_outcome l gateway reads s n = unless (check_fault n.table n.database s) (table_outcome l gateway reads n s)
 
 -- One statement. A fault that needs no row comes before any read.
-unfoldable pub statement : Layout → List ℕ → Reads → RowStatement → Evaluation Outcome
-statement l gateway reads s = option_map_or (evaluated_on l gateway reads s) (named l.catalog (table_name s)) (faults S42P01)
+unfoldable pub statement_outcome : Layout → List ℕ → Reads → RowStatement → Evaluation Outcome
+statement_outcome l gateway reads s = option_map_or (checked_outcome l gateway reads s) (named_table l.catalog (table_name s)) (faults S42P01)
 
 -- ---- lists
 
 -- What a list comes to: the answers of its statements, and all of its writes.
-pub record Answers : Type 0 where
+pub record ListOutcome : Type 0 where
   pub answers : List StatementResult
   pub own : OwnWrites
 
 -- Statements one after the other, each through the writes of those before it. A statement has at most three
 -- searches.
-unfoldable pub statements : Layout → List ℕ → Reads → OwnWrites → List RowStatement → Evaluation Answers
-statements l gateway reads own [] = gives (record { answers = []; own = own })
-statements l gateway reads own (s ∷ ss) =
-    before (3 * length ss) (statement l gateway (through own reads) s) >>= λ x.
-    statements l gateway reads (with_writes own x.writes) ss >>= λ y.
+unfoldable pub list_outcome : Layout → List ℕ → Reads → OwnWrites → List RowStatement → Evaluation ListOutcome
+list_outcome l gateway reads own [] = gives (record { answers = []; own = own })
+list_outcome l gateway reads own (s ∷ ss) =
+    followed_by (3 * length ss) (statement_outcome l gateway (reads_through own reads) s) >>= λ x.
+    list_outcome l gateway reads (with_writes own x.writes) ss >>= λ y.
     gives (record { answers = x.answer ∷ y.answers; own = y.own })
 
 -- Where and how a list runs: the tables and their ranges, the gateway's region, and the list as it was read.
@@ -167,5 +167,5 @@ pub record Setting : Type 0 where
   pub region : List ℕ
   pub list : Result (List RowStatement) SqlState
 
-unfoldable pub evaluation : Setting → Reads → Evaluation Answers
-evaluation s reads = of_result s.list >>= λ list. statements s.layout s.region reads [] list
+unfoldable pub evaluation : Setting → Reads → Evaluation ListOutcome
+evaluation s reads = of_result s.list >>= λ list. list_outcome s.layout s.region reads [] list

@@ -41,48 +41,48 @@ place_named c name = option_and_then (λ d. position (is_table d.name name) c.ta
 abbrev pub with_database : Contents → ℕ → Table → Option Named
 with_database c place t = option_map (λ d. record { place = place; table = t; database = d }) (database_of c t)
 
-unfoldable pub named : Contents → List ℕ → Option Named
-named c name = option_and_then (λ place. option_and_then (with_database c place) (slice_get c.tables place)) (place_named c name)
+unfoldable pub named_table : Contents → List ℕ → Option Named
+named_table c name = option_and_then (λ place. option_and_then (with_database c place) (slice_get c.tables place)) (place_named c name)
 
 -- ---- the rows of a table
 
 -- A row in its place among others, by primary key.
-abbrev pub in_place : Table → List Datum → List (List Datum) → List (List Datum)
-in_place t row [] = row ∷ []
-in_place t row (r ∷ rs) = if is_lt (row_cmp t row r) then row ∷ r ∷ rs else r ∷ in_place t row rs
+abbrev pub with_row : Table → List Datum → List (List Datum) → List (List Datum)
+with_row t row [] = row ∷ []
+with_row t row (r ∷ rs) = if is_lt (row_cmp t row r) then row ∷ r ∷ rs else r ∷ with_row t row rs
 
-abbrev pub in_order : Table → List (List Datum) → List (List Datum)
-in_order t [] = []
-in_order t (row ∷ rows) = in_place t row (in_order t rows)
+abbrev pub rows_in_order : Table → List (List Datum) → List (List Datum)
+rows_in_order t [] = []
+rows_in_order t (row ∷ rows) = with_row t row (rows_in_order t rows)
 
 -- The table of these rows. 23505: two have an equal primary key, or an equal value in a UNIQUE column.
-abbrev pub as_table : Table → List (List Datum) → Result (List (List Datum)) SqlState
-as_table t rows = if has_twins t rows then Err S23505 else Ok (in_order t rows)
+abbrev pub table_rows : Table → List (List Datum) → Result (List (List Datum)) SqlState
+table_rows t rows = if has_twins t rows then Err S23505 else Ok (rows_in_order t rows)
 
 -- ---- statements
 
 -- The answer of a statement that shows no rows.
-abbrev pub counted : Verb → ℕ → StatementResult
-counted verb n = record { verb = verb; count = n; rows = [] }
+abbrev pub count_answer : Verb → ℕ → StatementResult
+count_answer verb n = record { verb = verb; count = n; rows = [] }
 
 -- The answer of a SELECT.
-abbrev pub selected : List (List Datum) → StatementResult
-selected rows = record { verb = verbs.Select; count = length rows; rows = rows }
+abbrev pub rows_answer : List (List Datum) → StatementResult
+rows_answer rows = record { verb = verbs.Select; count = length rows; rows = rows }
 
 -- A statement without a fault of its own, on the rows of its table: its answer, and the rows after it.
 unfoldable pub on_rows : Named → List ℕ → RowStatement → List (List Datum) → Result (StatementResult × List (List Datum)) SqlState
 on_rows n gateway (Insert table names literals) rows =
     made_rows n.table (default_region n.database gateway) names literals >>= λ made.
-    as_table n.table (rows ++ made) >>= λ after.
-    Ok (counted verbs.Insert (length made), after)
+    table_rows n.table (rows ++ made) >>= λ after.
+    Ok (count_answer verbs.Insert (length made), after)
 on_rows n gateway (Select table wanted terms) rows =
-    Ok (selected (shown_rows n.table wanted (filter (matches n.table terms) rows)), rows)
+    Ok (rows_answer (shown_rows n.table wanted (filter (matches n.table terms) rows)), rows)
 on_rows n gateway (Update table targets terms) rows =
     changed_rows n.table targets (filter (matches n.table terms) rows) >>= λ changed.
-    as_table n.table (filter (λ row. not (matches n.table terms row)) rows ++ changed) >>= λ after.
-    Ok (counted verbs.Update (length changed), after)
+    table_rows n.table (filter (λ row. not (matches n.table terms row)) rows ++ changed) >>= λ after.
+    Ok (count_answer verbs.Update (length changed), after)
 on_rows n gateway (Delete table terms) rows =
-    Ok (counted verbs.Delete (length (filter (matches n.table terms) rows)), filter (λ row. not (matches n.table terms row)) rows)
+    Ok (count_answer verbs.Delete (length (filter (matches n.table terms) rows)), filter (λ row. not (matches n.table terms row)) rows)
 
 -- A database with these rows in one table.
 abbrev pub with_rows : PlainDatabase → ℕ → List (List Datum) → PlainDatabase
@@ -99,7 +99,7 @@ on_table gateway s d n =
 
 -- One statement: its answer and the database after it, or its fault. 42P01: there is no such table.
 unfoldable pub exec_statement : Contents → List ℕ → RowStatement → PlainDatabase → Result (StatementResult × PlainDatabase) SqlState
-exec_statement c gateway s d = option_map_or (on_table gateway s d) (named c (table_name s)) (Err S42P01)
+exec_statement c gateway s d = option_map_or (on_table gateway s d) (named_table c (table_name s)) (Err S42P01)
 
 -- Statements one after the other. Each sees what the earlier ones wrote, and a fault undoes all.
 unfoldable pub exec_list : Contents → List ℕ → List RowStatement → PlainDatabase → Result (List StatementResult × PlainDatabase) SqlState

@@ -18,12 +18,12 @@ use Rattle.descriptors.specs.Contents.{Contents}
 use Rattle.descriptors.specs.Sound.{IsSoundCatalog}
 use Rattle.row_locality.specs.Plain.{Layout, Partition, PlainDatabase, IsSoundLayout, IsValid}
 use Rattle.sql_eval.specs.Agreement.{Agrees, AreChanges}
-use Rattle.sql_eval.specs.Evaluation.{Answers, Setting, evaluation, partitions_of}
-use Rattle.sql_eval.specs.Execution.{Named, exec, named, table_name}
-use Rattle.sql_eval.specs.Lookups.{at_values, fixed_region, index_for}
+use Rattle.sql_eval.specs.Evaluation.{ListOutcome, Setting, evaluation, partitions_of}
+use Rattle.sql_eval.specs.Execution.{Named, exec, named_table, table_name}
+use Rattle.sql_eval.specs.Lookups.{key_lookup, fixed_region, index_for}
 use Rattle.sql_eval.specs.NextSpan.{next_span, phases_after, asks_after, writes_in}
 use Rattle.sql_eval.specs.OwnWrites.{writes_of}
-use Rattle.sql_eval.specs.Reads.{Reads, IsPartOf, served}
+use Rattle.sql_eval.specs.Reads.{Reads, IsPartOf, served_reads}
 use Rattle.sql_eval.specs.Search.{Evaluation, gives, faults, needs, ask_of}
 
 -- The text literals of a list are UTF-8.
@@ -38,12 +38,12 @@ pub record IsSoundSetting (s : Setting) : Type 0 where
 -- ---- what a list comes to is executed
 
 -- Executing the list on this database gives these answers, and changes exactly these writes.
-abbrev pub GivesOn : Setting → PlainDatabase → Answers → Type 0
+abbrev pub GivesOn : Setting → PlainDatabase → ListOutcome → Type 0
 GivesOn s d x = (after : PlainDatabase)
     × (exec s.layout.catalog s.region s.list d ≡ Ok (x.answers, after)) × AreChanges s.layout d after (writes_of x.own)
 
 -- Executing the list on this database comes to the same.
-abbrev pub IsExecuted : Setting → PlainDatabase → Evaluation Answers → Type 0
+abbrev pub IsExecuted : Setting → PlainDatabase → Evaluation ListOutcome → Type 0
 IsExecuted s d (gives x) = GivesOn s d x
 IsExecuted s d (faults e) = exec s.layout.catalog s.region s.list d ≡ Err e
 IsExecuted s d (needs ask phases asks) = ⊤
@@ -51,7 +51,7 @@ IsExecuted s d (needs ask phases asks) = ⊤
 -- What a list comes to after spans were fed is what executing it gives on every valid database that agrees.
 abbrev pub EvaluationIsExecuted : Type 0
 EvaluationIsExecuted = (s : Setting) (fed : List Fed) (d : PlainDatabase) → IsSoundSetting s → IsValid s.layout.catalog d
-    → Agrees s.layout d fed → IsExecuted s d (evaluation s (served fed))
+    → Agrees s.layout d fed → IsExecuted s d (evaluation s (served_reads fed))
 
 -- ---- executing keeps databases valid
 
@@ -62,7 +62,7 @@ ExecKeepsValid = (c : Contents) (gateway : List ℕ) (list : Result (List RowSta
 -- ---- more that is known changes nothing
 
 abbrev pub StaysGiven : Type 0
-StaysGiven = (s : Setting) (part whole : Reads) (x : Answers) → IsPartOf part whole
+StaysGiven = (s : Setting) (part whole : Reads) (x : ListOutcome) → IsPartOf part whole
     → evaluation s part ≡ gives x → evaluation s whole ≡ gives x
 
 abbrev pub StaysFaulty : Type 0
@@ -71,7 +71,7 @@ StaysFaulty = (s : Setting) (part whole : Reads) (e : SqlState) → IsPartOf par
 
 -- What is fed besides is known besides.
 abbrev pub FedIsKnown : Type 0
-FedIsKnown = (fed more : List Fed) → IsPartOf (served fed) (served (fed ++ more))
+FedIsKnown = (fed more : List Fed) → IsPartOf (served_reads fed) (served_reads (fed ++ more))
 
 -- ---- each answer brings the end nearer
 
@@ -87,18 +87,18 @@ NeedsAreCounted = (s : Setting) (fed : List Fed) (ask : Ask) → next_span s fed
 
 -- What is known isn't needed again.
 abbrev pub KnownIsNotNeeded : Type 0
-KnownIsNotNeeded = (s : Setting) (fed : List Fed) (ask : Ask) → next_span s fed ≡ Some ask → served fed ask ≡ None
+KnownIsNotNeeded = (s : Setting) (fed : List Fed) (ask : Ask) → next_span s fed ≡ Some ask → served_reads fed ask ≡ None
 
 -- The range is one of a table that the list names.
 abbrev pub IsRangeOfList : Setting → RangeId → Type 0
-IsRangeOfList s range = IsOkAnd s.list (Any (λ x. IsSomeAnd (named s.layout.catalog (table_name x)) (λ n. Any (λ p. p.range ≡ range) (partitions_of s.layout n))))
+IsRangeOfList s range = IsOkAnd s.list (Any (λ x. IsSomeAnd (named_table s.layout.catalog (table_name x)) (λ n. Any (λ p. p.range ≡ range) (partitions_of s.layout n))))
 
 -- Each span that a list needs, and each key that it writes, is in a range of one of its tables.
 abbrev pub NeedsAreOfTheTables : Type 0
 NeedsAreOfTheTables = (s : Setting) (fed : List Fed) (ask : Ask) → next_span s fed ≡ Some ask → IsRangeOfList s ask.range
 
 abbrev pub WritesAreOfTheTables : Type 0
-WritesAreOfTheTables = (s : Setting) (fed : List Fed) (w : Write) → IsSoundSetting s → Contains (writes_in (evaluation s (served fed))) w → IsRangeOfList s w.range
+WritesAreOfTheTables = (s : Setting) (fed : List Fed) (w : Write) → IsSoundSetting s → Contains (writes_in (evaluation s (served_reads fed))) w → IsRangeOfList s w.range
 
 -- ---- near comes first
 
@@ -115,7 +115,7 @@ pub record IsNearSearch (s : Setting) (n : Named) (near : Partition) (x : ℕ ×
   pub terms : List Term
   pub list : s.list ≡ Ok (one ∷ [])
   pub kind : search_terms one ≡ Some terms
-  pub table : named s.layout.catalog (table_name one) ≡ Some n
+  pub table : named_table s.layout.catalog (table_name one) ≡ Some n
   pub index : index_for n.table terms ≡ Some x
   pub anywhere : fixed_region terms ≡ None
   pub partition : Contains (partitions_of s.layout n) near
@@ -125,4 +125,4 @@ pub record IsNearSearch (s : Setting) (n : Named) (near : Partition) (x : ℕ ×
 -- pair of it. Source: CockroachDB's documentation of locality optimized search.
 abbrev pub NearComesFirst : Type 0
 NearComesFirst = (s : Setting) (n : Named) (near : Partition) (x : ℕ × List Datum) (fed : List Fed) (ask : Ask) → IsSoundSetting s → IsNearSearch s n near x
-    → next_span s fed ≡ Some ask → ask.range ≢ near.range → served fed (ask_of (at_values x.0 x.1 near)) ≡ Some []
+    → next_span s fed ≡ Some ask → ask.range ≢ near.range → served_reads fed (ask_of (key_lookup x.0 x.1 near)) ≡ Some []

@@ -29,8 +29,8 @@ is_bounded (Within ms any) = true
 
 -- A list of statements, by when it reads. 54000: it has more than 64 statements. 25006: it reads the past,
 -- and a statement isn't a SELECT. 0A000: its staleness is bounded, and it isn't one statement.
-abbrev pub judged : Kind → List RowStatement → Result (List RowStatement) SqlState
-judged kind list =
+abbrev pub list_result : Kind → List RowStatement → Result (List RowStatement) SqlState
+list_result kind list =
     if nat_lt 64 (length list) then Err S54000
     else (if is_past kind && not (list_all is_select list) then Err S25006
     else (if is_bounded kind && not (length list == 1) then Err S0A000 else Ok list))
@@ -38,5 +38,5 @@ judged kind list =
 -- A text is read as this list, or has this fault. 42601: it is no list. (No text is two lists.)
 abbrev pub IsReadAs : List ℕ → Kind → Result (List RowStatement) SqlState → Type 0
 IsReadAs text kind r =
-    ((list : List RowStatement) × IsListText text list × (r ≡ judged kind list))
+    ((list : List RowStatement) × IsListText text list × (r ≡ list_result kind list))
     ⊎ (((list : List RowStatement) → IsListText text list → ⊥) × (r ≡ Err S42601))

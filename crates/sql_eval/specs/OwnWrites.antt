@@ -67,18 +67,18 @@ abbrev pub is_asked : Ask → Place → Bool
 is_asked ask place = (place.0.0 == ask.range.0) && is_in ask.span place.1
 
 -- The keys of a span that were written, each with its last value.
-abbrev pub written_in : OwnWrites → Ask → List (List ℕ × Option (List ℕ))
-written_in own ask = filter_map (λ x. if is_asked ask x.0 then Some (x.0.1, x.1.last) else None) own
+abbrev pub values_written : OwnWrites → Ask → List (List ℕ × Option (List ℕ))
+values_written own ask = filter_map (λ x. if is_asked ask x.0 then Some (x.0.1, x.1.last) else None) own
 
 -- Pairs without the keys that were written, and then the last values of those that have one.
-abbrev pub patched : List (List ℕ × Option (List ℕ)) → List KeyValue → List KeyValue
-patched written pairs =
+abbrev pub patched_pairs : List (List ℕ × Option (List ℕ)) → List KeyValue → List KeyValue
+patched_pairs written pairs =
     put_all (filter_map (λ x. option_map (λ value. (x.0, value)) x.1) written)
     (where_key bytes_cmp (λ key. is_none (find bytes_cmp key written)) pairs)
 
 -- What is known through own writes. A span that isn't known stays so, whatever was written in it.
-unfoldable pub through : OwnWrites → Reads → Reads
-through own reads ask = option_map (patched (written_in own ask)) (reads ask)
+unfoldable pub reads_through : OwnWrites → Reads → Reads
+reads_through own reads ask = option_map (patched_pairs (values_written own ask)) (reads ask)
 
 -- ---- what a list writes
 

@@ -34,9 +34,9 @@ abbrev pub ◌>>=◌ : {A B : Type 0} → Result A SqlState → (A → Result B 
 (Ok x) >>= f = f x
 (Err e) >>= f = Err e
 
-abbrev pub all_of : {A : Type 0} → List (Result A SqlState) → Result (List A) SqlState
-all_of [] = Ok []
-all_of (r ∷ rs) = r >>= λ x. all_of rs >>= λ xs. Ok (x ∷ xs)
+abbrev pub all_values : {A : Type 0} → List (Result A SqlState) → Result (List A) SqlState
+all_values [] = Ok []
+all_values (r ∷ rs) = r >>= λ x. all_values rs >>= λ xs. Ok (x ∷ xs)
 
 -- ---- columns and values
 
@@ -94,8 +94,8 @@ abbrev pub or_fault : {A : Type 0} → Option SqlState → A → Result A SqlSta
 or_fault None x = Ok x
 or_fault (Some e) x = Err e
 
-abbrev pub checked : Table → List Datum → Result (List Datum) SqlState
-checked t row = or_fault (row_fault t row) row
+abbrev pub checked_row : Table → List Datum → Result (List Datum) SqlState
+checked_row t row = or_fault (row_fault t row) row
 
 -- The region that a row gets of which none is given: the gateway's where that is a region of the database,
 -- else the primary region.
@@ -103,19 +103,19 @@ abbrev pub default_region : Database → List ℕ → List ℕ
 default_region d gateway = if has_name d.regions gateway then gateway else unwrap_or (primary_region d) []
 
 -- The literal of a column in a row of VALUES.
-abbrev pub given : List (List ℕ) → List Literal → List ℕ → Option Datum
-given names row name = option_map datum_of (option_and_then (slice_get row) (position (bytes_eq name) names))
+abbrev pub given_value : List (List ℕ) → List Literal → List ℕ → Option Datum
+given_value names row name = option_map datum_of (option_and_then (slice_get row) (position (bytes_eq name) names))
 
 abbrev pub region_if : List ℕ → List ℕ → Option Datum
 region_if region name = if is_region_column name then Some (datums.Text region) else None
 
 -- The row that INSERT makes of a row of VALUES for these columns; without one of its own it gets the region.
 unfoldable pub made_row : Table → List ℕ → List (List ℕ) → List Literal → List Datum
-made_row t region names row = filter_map (λ c. option_or (given names row c.0) (region_if region c.0)) (all_columns t)
+made_row t region names row = filter_map (λ c. option_or (given_value names row c.0) (region_if region c.0)) (all_columns t)
 
 -- The rows of an INSERT in the order of the text, or the first fault.
 unfoldable pub made_rows : Table → List ℕ → List (List ℕ) → List (List Literal) → Result (List (List Datum)) SqlState
-made_rows t region names rows = all_of (map (λ row. checked t (made_row t region names row)) rows)
+made_rows t region names rows = all_values (map (λ row. checked_row t (made_row t region names row)) rows)
 
 abbrev pub plus : ℤ → Datum → Datum
 plus by (datums.Int n) = datums.Int (n +ℤ by)
@@ -144,20 +144,15 @@ changed_row t targets old = filter_map (λ x. option_or (set_value t targets old
 
 -- The rows that UPDATE makes of old ones, in their order, or the first fault.
 unfoldable pub changed_rows : Table → List Target → List (List Datum) → Result (List (List Datum)) SqlState
-changed_rows t targets olds = all_of (map (λ old. checked t (changed_row t targets old)) olds)
+changed_rows t targets olds = all_values (map (λ old. checked_row t (changed_row t targets old)) olds)
 
 -- ---- rows that are shown
 
--- What SELECT shows of a row. `*` leaves the region out.
-abbrev pub shown : Table → Wanted → List Datum → List Datum
-shown t wants.All row = take (length t.columns) row
-shown t (wants.Columns names) row = filter_map (value_in t row) names
-shown t wants.Count row = []
-
--- What SELECT answers of the rows that match: count(*) is one row with their number.
+-- What SELECT answers of the rows that match. `*` leaves the region out, and count(*) is one row with the
+-- number of rows.
 abbrev pub shown_rows : Table → Wanted → List (List Datum) → List (List Datum)
-shown_rows t wants.All rows = map (shown t wants.All) rows
-shown_rows t (wants.Columns names) rows = map (shown t (wants.Columns names)) rows
+shown_rows t wants.All rows = map (take (length t.columns)) rows
+shown_rows t (wants.Columns names) rows = map (λ row. filter_map (value_in t row) names) rows
 shown_rows t wants.Count rows = (datums.Int (pos (length rows)) ∷ []) ∷ []
 
 -- ---- rows that may not stand side by side

@@ -24,10 +24,10 @@ abbrev pub ◌>>=◌ : {A B : Type 0} → Evaluation A → (A → Evaluation B) 
 (needs ask phases asks) >>= f = needs ask phases asks
 
 -- An evaluation behind which at most so many searches follow.
-abbrev pub before : {A : Type 0} → ℕ → Evaluation A → Evaluation A
-before n (gives x) = gives x
-before n (faults e) = faults e
-before n (needs ask phases asks) = needs ask (phases + n) asks
+abbrev pub followed_by : {A : Type 0} → ℕ → Evaluation A → Evaluation A
+followed_by n (gives x) = gives x
+followed_by n (faults e) = faults e
+followed_by n (needs ask phases asks) = needs ask (phases + n) asks
 
 abbrev pub of_result : {A : Type 0} → Result A SqlState → Evaluation A
 of_result (Ok x) = gives x
