@@ -11,14 +11,13 @@ use Rattle.region_sql.specs.declared.row_statements.RowStatement.{RowStatement}
 use Rattle.region_sql.specs.declared.row_statements.RowStatement.TheVariants as rows
 use Rattle.region_sql.specs.declared.row_statements.Target.{Target}
 use Rattle.region_sql.specs.declared.row_statements.Term.{Term}
-use Rattle.region_sql.specs.declared.row_statements.Value.{Value}
 use Rattle.region_sql.specs.declared.row_statements.Value.TheVariants as values
 use Rattle.region_sql.specs.declared.tokens.Key.TheVariants as key
 use Rattle.region_sql.specs.declared.tokens.Sign.TheVariants as sign
 use Rattle.region_sql.specs.declared.tokens.Token.{Token}
 use Rattle.region_sql.specs.declared.tokens.Token.TheVariants as token
 use Rattle.region_sql.specs.Tokens.{key_number, sign_number}
-use Rattle.region_sql.specs.Forms.{AreEnded, AreListed, Fits, Form, as_value, both, either, ended, listed, maybe}
+use Rattle.region_sql.specs.Forms.{AreEnded, AreListed, Fits, Form, as_value, both, either, listed, maybe}
 use Rattle.region_sql.specs.Grammar.{IsListText, change, changed, compare, delete, equals, insert, inside, list_or_none, literal, literal_in, literal_list, mark, name, names, row, row_list, row_statement, row_statements, select, target, targets, term, terms, three, update, value, wanted, where_terms, word, ◌▸◌, ◌◂◌}
 use Rattle.region_sql.specs.TextLiterals.{IsUtf8Literal, IsUtf8Value, TextsAreUtf8}
 use Rattle.region_sql.proofs.TextTokens.{AreUtf8Tokens, IsUtf8Token, utf8_back, utf8_front, utf8_of_split}

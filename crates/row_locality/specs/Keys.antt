@@ -1,5 +1,5 @@
 -- The keys of a table's indexes. Source: this project's profile, after CockroachDB's encoding of keys.
-use Rattle.std.specs.Prelude.{◌≡◌, ℕ, ℤ, pos, negsuc, ◌+◌, ◌-◌, ◌^◌, ◌==◌, if◌then◌else◌, List, [], ◌∷◌, ◌++◌, flat_map, filter_map, map, slice_get, Option, option_map, unwrap_or}
+use Rattle.std.specs.Prelude.{◌≡◌, ℕ, ℤ, pos, negsuc, ◌+◌, ◌-◌, ◌^◌, ◌==◌, if◌then◌else◌, List, [], ◌∷◌, ◌++◌, flat_map, filter_map, map, slice_get, option_map, unwrap_or}
 use Rattle.std.specs.Int.{w64, to_be_bytes, from_bool}
 use Rattle.std.specs.List.{AllZip}
 use Rattle.mr_base.specs.declared.rows.Datum.{Datum}

@@ -1,7 +1,7 @@
 -- Plain databases, the ranges in which their rows live, and what each range holds. Source: CockroachDB's
 -- documentation of table localities (a REGIONAL BY ROW table has a partition in each region of its database,
 -- any other table one range), in this project's profile.
-use Rattle.std.specs.Prelude.{◌≡◌, ◌≢◌, ℕ, ◌+◌, ◌<◌, ◌≤◌, ◌^◌, ◌==◌, if◌then◌else◌, IsTrue, List, [], ◌∷◌, length, map, flat_map, slice_get, position, All, AllPairs, Contains, Option, Some, None, option_map, option_and_then, unwrap_or, IfSome}
+use Rattle.std.specs.Prelude.{◌≡◌, ◌≢◌, ℕ, ◌+◌, ◌<◌, ◌≤◌, ◌^◌, ◌==◌, if◌then◌else◌, IsTrue, List, [], ◌∷◌, length, map, flat_map, slice_get, position, All, AllPairs, Contains, Option, Some, None, option_and_then, unwrap_or, IfSome}
 use Rattle.std.specs.List.{enumerate_from}
 use Rattle.std.specs.Option.{option_map_or}
 use Rattle.std.specs.declared.cmp.Ordering.TheVariants.{Less}
@@ -74,8 +74,9 @@ range_at l place partition = record { 0 = first_range l place + partition }
 pub record AreRangesOf (l : Layout) : Type 0 where
   pub each : length l.first_ranges ≡ length l.catalog.tables
   pub follow : (place : ℕ) (t : Table) → slice_get l.catalog.tables place ≡ Some t → place + 1 < length l.catalog.tables
-    → first_range l (place + 1) ≡ first_range l place + length (partition_regions l.catalog t)
-  pub numbered : (place : ℕ) (t : Table) → slice_get l.catalog.tables place ≡ Some t → first_range l place + length (partition_regions l.catalog t) ≤ 2 ^ 32
+      → first_range l (place + 1) ≡ first_range l place + length (partition_regions l.catalog t)
+  pub numbered : (place : ℕ) (t : Table) → slice_get l.catalog.tables place ≡ Some t
+      → first_range l place + length (partition_regions l.catalog t) ≤ 2 ^ 32
 
 pub record IsSoundLayout (l : Layout) : Type 0 where
   pub catalog : IsSoundCatalog l.catalog

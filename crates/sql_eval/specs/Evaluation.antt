@@ -1,6 +1,6 @@
 -- What a list of statements comes to over what is known of ranges: its answers and writes, a fault, or the
 -- span that it needs next. Source: this project's profile.
-use Rattle.std.specs.Prelude.{ℕ, ◌==◌, ◌*◌, Bool, true, false, not, ◌||◌, if◌then◌else◌, List, [], ◌∷◌, ◌++◌, length, map, filter, flat_map, filter_map, slice_get, Option, Some, None, option_map, option_and_then, option_to_list, is_none, Result}
+use Rattle.std.specs.Prelude.{ℕ, ◌==◌, ◌*◌, Bool, false, not, ◌||◌, if◌then◌else◌, List, [], ◌∷◌, ◌++◌, length, map, filter, flat_map, filter_map, slice_get, Option, Some, None, option_map, option_and_then, option_to_list, is_none, Result}
 use Rattle.std.specs.FinMap.Entries.{find}
 use Rattle.std.specs.List.{list_any}
 use Rattle.std.specs.Option.{option_map_or}
@@ -11,7 +11,6 @@ use Rattle.mr_base.specs.declared.states.SqlState.{SqlState}
 use Rattle.mr_base.specs.declared.states.SqlState.TheVariants.{S23505, S42P01}
 use Rattle.region_sql.specs.declared.row_statements.RowStatement.{RowStatement}
 use Rattle.region_sql.specs.declared.row_statements.RowStatement.TheVariants.{Insert, Select, Update, Delete}
-use Rattle.region_sql.specs.declared.row_statements.Target.{Target}
 use Rattle.region_sql.specs.declared.row_statements.Term.{Term}
 use Rattle.descriptors.specs.declared.table.Table.{Table}
 use Rattle.row_locality.specs.Pairs.{KeyValue, bytes_cmp, pairs_of, put_all}
@@ -23,7 +22,7 @@ use Rattle.sql_eval.specs.Faults.{check_fault}
 use Rattle.sql_eval.specs.Execution.{Named, named_table, table_name, count_answer, rows_answer}
 use Rattle.sql_eval.specs.Reads.{Reads}
 use Rattle.sql_eval.specs.OwnWrites.{OwnWrite, OwnWrites, removal, addition, with_writes, reads_through}
-use Rattle.sql_eval.specs.Search.{Evaluation, gives, faults, needs, ◌>>=◌, followed_by, of_result, Lookup, Answer, search}
+use Rattle.sql_eval.specs.Search.{Evaluation, gives, faults, ◌>>=◌, followed_by, of_result, Lookup, Answer, search}
 use Rattle.sql_eval.specs.Lookups.{index_for, searched_partitions, row_lookups, primary_lookup, new_row_lookups, changed_row_lookups}
 
 -- ---- the rows that match
@@ -64,13 +63,15 @@ at_primary t number answers = flat_map (λ a. option_to_list (led_to t number a)
 -- A search by a secondary index goes on to the row itself.
 abbrev pub followed_answers : Reads → Table → Option (ℕ × List Datum) → List Answer → Evaluation (List Answer)
 followed_answers reads t None answers = gives answers
-followed_answers reads t (Some x) answers = if x.0 == 0 then gives answers else search reads (λ a. false) (at_primary t x.0 answers)
+followed_answers reads t (Some x) answers =
+    if x.0 == 0 then gives answers else search reads (λ a. false) (at_primary t x.0 answers)
 
 -- The rows that match, by at most two searches.
 unfoldable pub found_rows : Reads → Table → List ℕ → List Partition → List Term → Evaluation (List KeyedRow)
 found_rows reads t gateway ps terms =
-    followed_by 1 (search reads (ends_at (index_for t terms)) (row_lookups gateway (index_for t terms) (searched_partitions terms ps))) >>= λ first.
-    followed_answers reads t (index_for t terms) first >>= λ answers.
+    let by = index_for t terms in
+    followed_by 1 (search reads (ends_at by) (row_lookups gateway by (searched_partitions terms ps))) >>= λ first.
+    followed_answers reads t by first >>= λ answers.
     gives (matched_rows t terms answers)
 
 -- ---- rows that must not be there
@@ -143,7 +144,8 @@ checked_outcome l gateway reads s n = unless (check_fault n.table n.database s) 
 
 -- One statement. A fault that needs no row comes before any read.
 unfoldable pub statement_outcome : Layout → List ℕ → Reads → RowStatement → Evaluation Outcome
-statement_outcome l gateway reads s = option_map_or (checked_outcome l gateway reads s) (named_table l.catalog (table_name s)) (faults S42P01)
+statement_outcome l gateway reads s =
+    option_map_or (checked_outcome l gateway reads s) (named_table l.catalog (table_name s)) (faults S42P01)
 
 -- ---- lists
 
@@ -167,5 +169,6 @@ pub record Setting : Type 0 where
   pub region : List ℕ
   pub list : Result (List RowStatement) SqlState
 
+-- The list of a setting over what is known.
 unfoldable pub evaluation : Setting → Reads → Evaluation ListOutcome
 evaluation s reads = of_result s.list >>= λ list. list_outcome s.layout s.region reads [] list

@@ -1,7 +1,7 @@
 -- What a list of statements does on a plain database, one statement after the other: the meaning of SQL,
 -- which knows nothing of ranges, keys or reads. Source: PostgreSQL's documentation of INSERT, SELECT, UPDATE
 -- and DELETE, in this project's profile.
-use Rattle.std.specs.Prelude.{ℕ, ◌==◌, Bool, not, if◌then◌else◌, List, [], ◌∷◌, ◌++◌, length, map, filter, slice_get, position, Option, Some, None, option_map, option_and_then, Result, Ok, Err}
+use Rattle.std.specs.Prelude.{ℕ, ◌==◌, not, if◌then◌else◌, List, [], ◌∷◌, ◌++◌, length, filter, slice_get, position, Option, Some, None, option_map, option_and_then, Result, Ok, Err}
 use Rattle.std.specs.Option.{option_map_or}
 use Rattle.std.specs.Ordering.{is_lt}
 use Rattle.mr_base.specs.declared.results.StatementResult.{StatementResult}
@@ -82,7 +82,10 @@ on_rows n gateway (Update table targets terms) rows =
     table_rows n.table (filter (λ row. not (matches n.table terms row)) rows ++ changed) >>= λ after.
     Ok (count_answer verbs.Update (length changed), after)
 on_rows n gateway (Delete table terms) rows =
-    Ok (count_answer verbs.Delete (length (filter (matches n.table terms) rows)), filter (λ row. not (matches n.table terms row)) rows)
+    Ok (
+      count_answer verbs.Delete (length (filter (matches n.table terms) rows)),
+      filter (λ row. not (matches n.table terms row)) rows,
+    )
 
 -- A database with these rows in one table.
 abbrev pub with_rows : PlainDatabase → ℕ → List (List Datum) → PlainDatabase
@@ -110,5 +113,6 @@ exec_list c gateway (s ∷ ss) d =
     Ok (x.0 ∷ y.0, y.1)
 
 -- A list as it was read, from a gateway in this region.
-unfoldable pub exec : Contents → List ℕ → Result (List RowStatement) SqlState → PlainDatabase → Result (List StatementResult × PlainDatabase) SqlState
+unfoldable pub exec : Contents → List ℕ → Result (List RowStatement) SqlState → PlainDatabase
+    → Result (List StatementResult × PlainDatabase) SqlState
 exec c gateway list d = list >>= λ ss. exec_list c gateway ss d

@@ -1,6 +1,6 @@
 -- The faults of a statement on a table that is there, before any row is looked at. Source: PostgreSQL's
 -- codes of SQLSTATE; the order of faults is this project's profile.
-use Rattle.std.specs.Prelude.{ℕ, ◌==◌, Bool, true, false, not, ◌&&◌, ◌||◌, if◌then◌else◌, List, [], ◌∷◌, length, map, flat_map, find, Option, Some, None, option_and_then, is_some}
+use Rattle.std.specs.Prelude.{ℕ, ◌==◌, Bool, true, false, not, ◌&&◌, ◌||◌, if◌then◌else◌, List, [], ◌∷◌, ◌++◌, length, map, find, Option, Some, None, option_and_then, is_some}
 use Rattle.std.specs.List.{list_all}
 use Rattle.std.specs.Option.{option_or}
 use Rattle.std.specs.Str.{bytes_eq}
@@ -46,7 +46,7 @@ set_fault t before name = option_or (unknown_fault t name) (again_fault before n
 -- The columns of an INSERT, after these.
 abbrev pub inserted_fault : Table → List (List ℕ) → List (List ℕ) → Option SqlState
 inserted_fault t before [] = None
-inserted_fault t before (name ∷ names) = option_or (set_fault t before name) (inserted_fault t (name ∷ before) names)
+inserted_fault t before (name ∷ names) = option_or (set_fault t before name) (inserted_fault t (before ++ name ∷ []) names)
 
 -- The column that a value of UPDATE names.
 abbrev pub source_fault : Table → Value → Option SqlState
@@ -58,7 +58,8 @@ source_fault t (values.Minus name by) = unknown_fault t name
 -- The targets of an UPDATE with their values, after these.
 abbrev pub targets_fault : Table → List (List ℕ) → List Target → Option SqlState
 targets_fault t before [] = None
-targets_fault t before (x ∷ xs) = option_or (set_fault t before x.column) (option_or (source_fault t x.value) (targets_fault t (x.column ∷ before) xs))
+targets_fault t before (x ∷ xs) =
+    option_or (set_fault t before x.column) (option_or (source_fault t x.value) (targets_fault t (before ++ x.column ∷ []) xs))
 
 abbrev pub wanted_fault : Table → Wanted → Option SqlState
 wanted_fault t wants.All = None
@@ -159,7 +160,8 @@ term_literals_fault t d terms = first_fault (map (λ x. named_literal_fault t d 
 abbrev pub literals_fault : Table → Database → RowStatement → Option SqlState
 literals_fault t d (Insert table names rows) = first_fault (map (row_literals_fault t d names) rows)
 literals_fault t d (Select table wanted terms) = term_literals_fault t d terms
-literals_fault t d (Update table targets terms) = option_or (first_fault (map (target_value_fault t d) targets)) (term_literals_fault t d terms)
+literals_fault t d (Update table targets terms) =
+    option_or (first_fault (map (target_value_fault t d) targets)) (term_literals_fault t d terms)
 literals_fault t d (Delete table terms) = term_literals_fault t d terms
 
 -- ---- all of them

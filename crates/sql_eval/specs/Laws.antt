@@ -1,6 +1,6 @@
 -- The laws of lists of statements: what a list comes to over any part of a database is what executing it
 -- gives. (This project's profile.)
-use Rattle.std.specs.Prelude.{◌≡◌, ◌≢◌, ◌↔◌, ℕ, ◌+◌, ◌<◌, ⊤, List, [], ◌∷◌, ◌++◌, All, Any, Contains, Option, Some, None, IsSomeAnd, Result, Ok, Err, IfOk, IsOkAnd}
+use Rattle.std.specs.Prelude.{◌≡◌, ◌≢◌, ℕ, ◌+◌, ◌<◌, ⊤, List, [], ◌∷◌, ◌++◌, All, Any, Contains, Option, Some, None, IsSomeAnd, Result, Ok, Err, IfOk, IsOkAnd}
 use Rattle.mr_base.specs.Scripts.{IsNearer, fed_with}
 use Rattle.mr_base.specs.declared.ids.RangeId.{RangeId}
 use Rattle.mr_base.specs.declared.results.StatementResult.{StatementResult}
@@ -16,7 +16,7 @@ use Rattle.region_sql.specs.declared.row_statements.RowStatement.TheVariants.{In
 use Rattle.region_sql.specs.declared.row_statements.Term.{Term}
 use Rattle.descriptors.specs.Contents.{Contents}
 use Rattle.descriptors.specs.Sound.{IsSoundCatalog}
-use Rattle.row_locality.specs.Plain.{Layout, Partition, PlainDatabase, IsSoundLayout, IsValid}
+use Rattle.row_locality.specs.Plain.{Partition, PlainDatabase, IsSoundLayout, IsValid}
 use Rattle.sql_eval.specs.Agreement.{Agrees, AreChanges}
 use Rattle.sql_eval.specs.Evaluation.{ListOutcome, Setting, evaluation, partitions_of}
 use Rattle.sql_eval.specs.Execution.{Named, exec, named_table, table_name}
@@ -56,8 +56,8 @@ EvaluationIsExecuted = (s : Setting) (fed : List Fed) (d : PlainDatabase) → Is
 -- ---- executing keeps databases valid
 
 abbrev pub ExecKeepsValid : Type 0
-ExecKeepsValid = (c : Contents) (gateway : List ℕ) (list : Result (List RowStatement) SqlState) (d after : PlainDatabase) (answers : List StatementResult)
-    → IsSoundCatalog c → HaveTexts list → IsValid c d → exec c gateway list d ≡ Ok (answers, after) → IsValid c after
+ExecKeepsValid = (c : Contents) (gateway : List ℕ) (list : Result (List RowStatement) SqlState) (d after : PlainDatabase)
+    (answers : List StatementResult) → IsSoundCatalog c → HaveTexts list → IsValid c d → exec c gateway list d ≡ Ok (answers, after) → IsValid c after
 
 -- ---- more that is known changes nothing
 
@@ -78,7 +78,7 @@ FedIsKnown = (fed more : List Fed) → IsPartOf (served_reads fed) (served_reads
 abbrev pub AnswersBringNearer : Type 0
 AnswersBringNearer = (s : Setting) (fed : List Fed) (ask : Ask) (rows : List Pair) → next_span s fed ≡ Some ask
     → IsNearer (phases_after s fed) (asks_after s fed)
-      (phases_after s (fed ++ fed_with ask rows ∷ [])) (asks_after s (fed ++ fed_with ask rows ∷ []))
+    (phases_after s (fed ++ fed_with ask rows ∷ [])) (asks_after s (fed ++ fed_with ask rows ∷ []))
 
 abbrev pub NeedsAreCounted : Type 0
 NeedsAreCounted = (s : Setting) (fed : List Fed) (ask : Ask) → next_span s fed ≡ Some ask → 0 < phases_after s fed + asks_after s fed
@@ -91,14 +91,16 @@ KnownIsNotNeeded = (s : Setting) (fed : List Fed) (ask : Ask) → next_span s fe
 
 -- The range is one of a table that the list names.
 abbrev pub IsRangeOfList : Setting → RangeId → Type 0
-IsRangeOfList s range = IsOkAnd s.list (Any (λ x. IsSomeAnd (named_table s.layout.catalog (table_name x)) (λ n. Any (λ p. p.range ≡ range) (partitions_of s.layout n))))
+IsRangeOfList s range = IsOkAnd s.list (Any (λ x.
+    IsSomeAnd (named_table s.layout.catalog (table_name x)) (λ n. Any (λ p. p.range ≡ range) (partitions_of s.layout n))))
 
 -- Each span that a list needs, and each key that it writes, is in a range of one of its tables.
 abbrev pub NeedsAreOfTheTables : Type 0
 NeedsAreOfTheTables = (s : Setting) (fed : List Fed) (ask : Ask) → next_span s fed ≡ Some ask → IsRangeOfList s ask.range
 
 abbrev pub WritesAreOfTheTables : Type 0
-WritesAreOfTheTables = (s : Setting) (fed : List Fed) (w : Write) → IsSoundSetting s → Contains (writes_in (evaluation s (served_reads fed))) w → IsRangeOfList s w.range
+WritesAreOfTheTables = (s : Setting) (fed : List Fed) (w : Write) → IsSoundSetting s
+    → Contains (writes_in (evaluation s (served_reads fed))) w → IsRangeOfList s w.range
 
 -- ---- near comes first
 
@@ -124,5 +126,6 @@ pub record IsNearSearch (s : Setting) (n : Named) (near : Partition) (x : ℕ ×
 -- Such a list needs a span of another partition only after the near one was served its key, and held no
 -- pair of it. Source: CockroachDB's documentation of locality optimized search.
 abbrev pub NearComesFirst : Type 0
-NearComesFirst = (s : Setting) (n : Named) (near : Partition) (x : ℕ × List Datum) (fed : List Fed) (ask : Ask) → IsSoundSetting s → IsNearSearch s n near x
-    → next_span s fed ≡ Some ask → ask.range ≢ near.range → served_reads fed (ask_of (key_lookup x.0 x.1 near)) ≡ Some []
+NearComesFirst = (s : Setting) (n : Named) (near : Partition) (x : ℕ × List Datum) (fed : List Fed) (ask : Ask)
+    → IsSoundSetting s → IsNearSearch s n near x → next_span s fed ≡ Some ask → ask.range ≢ near.range
+    → served_reads fed (ask_of (key_lookup x.0 x.1 near)) ≡ Some []

@@ -40,7 +40,8 @@ fixed_value_at t terms place = option_and_then (λ c. fixed_value terms c.0) (sl
 -- The values of these columns, where each has a term with `=`.
 abbrev pub fixed_values : Table → List Term → List ℕ → Option (List Datum)
 fixed_values t terms [] = Some []
-fixed_values t terms (place ∷ places) = option_and_then (λ v. option_map (λ vs. v ∷ vs) (fixed_values t terms places)) (fixed_value_at t terms place)
+fixed_values t terms (place ∷ places) =
+    option_and_then (λ v. option_map (λ vs. v ∷ vs) (fixed_values t terms places)) (fixed_value_at t terms place)
 
 abbrev pub first_fixed : Table → List Term → List (ℕ × List ℕ) → Option (ℕ × List Datum)
 first_fixed t terms [] = None

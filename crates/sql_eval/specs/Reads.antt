@@ -1,6 +1,6 @@
 -- What is known of ranges: of a span of a range its pairs, or nothing where they aren't known. (This
 -- project's profile.)
-use Rattle.std.specs.Prelude.{◌≡◌, ℕ, ◌==◌, Bool, ◌&&◌, List, map, find, Option, Some, option_map}
+use Rattle.std.specs.Prelude.{◌≡◌, ◌==◌, Bool, ◌&&◌, List, map, find, Option, Some, option_map}
 use Rattle.std.specs.FinMap.Entries.{where_key}
 use Rattle.mr_base.specs.declared.script.Fed.{Fed}
 use Rattle.mr_base.specs.declared.spans.Ask.{Ask}
