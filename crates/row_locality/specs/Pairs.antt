@@ -1,6 +1,6 @@
 -- Rows as pairs of key and value. Source: this project's profile, after CockroachDB's encoding of rows and
 -- of unique secondary indexes.
-use Rattle.std.specs.Prelude.{◌≡◌, ℕ, List, [], ◌∷◌, map, All, Option}
+use Rattle.std.specs.Prelude.{◌≡◌, ℕ, List, [], ◌∷◌, map, All, Option, length, take}
 use Rattle.std.specs.Cmp.Lexicographic.{slice_cmp}
 use Rattle.std.specs.FinMap.Entries.{put}
 use Rattle.std.specs.List.{enumerate_from}
@@ -37,11 +37,12 @@ index_pairs t row = map (λ x. (index_key x.0 (values_at x.1 row), primary_key t
 abbrev pub pairs_of : Table → List Datum → List KeyValue
 pairs_of t row = row_pair t row ∷ index_pairs t row
 
--- A pair is of a row that fits the table and lives in this region.
+-- A pair is of a row that fits the table and lives in this region. The length of each text in its value
+-- fits into the bytes for it.
 pub record IsPairOf (t : Table) (region : Option (List ℕ)) (row : List Datum) (p : KeyValue) : Type 0 where
   pub fits : Fits t row
   pub lives : region_of t row ≡ region
-  pub lengths : All HasLength row
+  pub lengths : All HasLength (take (length t.columns) row)
   pub pair : p ≡ row_pair t row
 
 -- Entries by key put into others, one after the other: of two with one key the later stands.
