@@ -1,9 +1,9 @@
 pub mod Faults
+pub mod OneColumnForms
 pub mod Forms
 pub mod Grammar
 pub mod IntText
 pub mod Lexing
-pub mod OneColumnForms
 pub mod Places
 pub mod Reading
 pub mod TextLiterals
