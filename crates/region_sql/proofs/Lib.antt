@@ -14,4 +14,6 @@ pub mod Outcomes
 pub mod Placing
 pub mod Plain
 pub mod Samples
+pub mod TextForms
+pub mod TextTokens
 pub mod Texts

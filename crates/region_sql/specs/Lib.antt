@@ -6,4 +6,5 @@ pub mod IntText
 pub mod Lexing
 pub mod Places
 pub mod Reading
+pub mod TextLiterals
 pub mod Tokens

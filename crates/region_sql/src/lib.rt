@@ -7,6 +7,7 @@ mod lexer;
 mod lexing;
 mod listing;
 mod lists;
+mod literals;
 mod numbers;
 mod one_column_forms;
 mod parse;
@@ -20,6 +21,7 @@ mod token_readers;
 mod tokens;
 mod words;
 
+pub use literals::list_texts_are_utf8;
 pub use one_column_forms::{OneColumnStatement, int_of, one_column_statement};
 pub use parse::{one_meaning, parse_list, parse_statement};
 pub use region_statements::{ColumnKey, ColumnType, Goal, Item, Locality, RegionStatement};

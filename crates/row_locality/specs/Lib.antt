@@ -1,2 +1,10 @@
+pub mod Keys
 pub mod OneColumnDatabases
 pub mod OneColumnRows
+pub mod Pairs
+pub mod Plain
+pub mod Reading
+pub mod Reshaped
+pub mod Rows
+pub mod Spans
+pub mod Values

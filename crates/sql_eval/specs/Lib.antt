@@ -1,3 +1,15 @@
+pub mod Agreement
+pub mod Evaluation
+pub mod Execution
+pub mod Faults
+pub mod Laws
+pub mod ListFaults
+pub mod Lookups
+pub mod NextSpan
 pub mod OneColumnAgreement
 pub mod OneColumnExecution
 pub mod OneColumnNextSpan
+pub mod OwnWrites
+pub mod Reads
+pub mod RowWords
+pub mod Search
