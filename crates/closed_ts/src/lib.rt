@@ -8,6 +8,3 @@ mod targets;
 pub use routing::next_target;
 pub use serving::{by_closure, by_lease};
 pub use targets::target;
-
-#[cfg(test)]
-mod tests;

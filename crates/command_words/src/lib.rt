@@ -5,6 +5,3 @@ mod reading;
 mod words;
 
 pub use words::{Command, command_of};
-
-#[cfg(test)]
-mod tests;

@@ -11,7 +11,6 @@ ghost use Rattle.std.specs.Ordering.{nat_cmp, as_partial_cmp};
 use crate::memory::{CloneIn, Memory};
 use std::alloc::Global;
 use std::cmp::Ordering;
-use std::fmt;
 use std::hash::{Hash, Hasher};
 use std::marker::Model;
 
@@ -110,11 +109,5 @@ impl Hash for Bytes {
 
     fn hash<H: Hasher>(&self, state: &mut H) {
         self.items.hash(state);
-    }
-}
-
-impl fmt::Debug for Bytes {
-    fn fmt<W: fmt::Write>(&self, f: &mut fmt::Formatter<W>) -> fmt::Result {
-        self.items.fmt(f)
     }
 }

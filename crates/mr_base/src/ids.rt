@@ -5,23 +5,23 @@ use std::alloc::Global;
 use std::fmt;
 
 /// A node, numbered from 1 to 64 and written `n1`, `n2`, ..
-#[derive(Clone, Copy, Debug, PartialEq, Eq, PartialOrd, Ord, Hash)]
+#[derive(Clone, Copy, PartialEq, Eq, PartialOrd, Ord)]
 pub struct NodeId(pub u32);
 
 /// A range, numbered from 1 and written `r1`, `r2`, ..
-#[derive(Clone, Copy, Debug, PartialEq, Eq, PartialOrd, Ord, Hash)]
+#[derive(Clone, Copy, PartialEq, Eq, PartialOrd, Ord)]
 pub struct RangeId(pub u32);
 
 /// An attempt of a transaction, numbered from 1 over the whole run and written `a1`, `a2`, ..
-#[derive(Clone, Copy, Debug, PartialEq, Eq, PartialOrd, Ord, Hash)]
+#[derive(Clone, Copy, PartialEq, Eq, PartialOrd, Ord)]
 pub struct AttemptId(pub u32);
 
 /// A transaction, which the scenario names.
-#[derive(Clone, Copy, Debug, PartialEq, Eq, PartialOrd, Ord, Hash)]
+#[derive(Clone, Copy, PartialEq, Eq, PartialOrd, Ord)]
 pub struct TxnId(pub u32);
 
 /// A message, numbered from 1 in the order sent and written `m1`, `m2`, ..
-#[derive(Clone, Copy, Debug, PartialEq, Eq, PartialOrd, Ord, Hash)]
+#[derive(Clone, Copy, PartialEq, Eq, PartialOrd, Ord)]
 pub struct MsgId(pub u64);
 
 impl fmt::Display for NodeId {

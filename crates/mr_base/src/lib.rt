@@ -31,6 +31,3 @@ pub use spans::{Ask, Pair, Span, Write};
 pub use states::SqlState;
 pub use text_parts::{after_head, before_tail, is_utf8, round_blank};
 pub use timestamps::{Reading, Ts, order_of_timestamps};
-
-#[cfg(test)]
-mod tests;

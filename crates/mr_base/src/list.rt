@@ -7,7 +7,6 @@ ghost use Rattle.std.specs.Prelude.{◌≡◌, ◌↔◌, List, [], ◌∷◌, �
 
 use crate::memory::{CloneIn, Memory};
 use std::alloc::Global;
-use std::fmt;
 use std::marker::Model;
 
 /// A list of items, made from a `Vec` and giving it back without taking memory.
@@ -111,10 +110,4 @@ impl<T: PartialEq> PartialEq for ListOf<T> {
 
 impl<T: Eq> Eq for ListOf<T> {
     ghost laws = { Prim.search (comparing, rules) };
-}
-
-impl<T: fmt::Debug> fmt::Debug for ListOf<T> {
-    fn fmt<W: fmt::Write>(&self, f: &mut fmt::Formatter<W>) -> fmt::Result {
-        self.items.fmt(f)
-    }
 }

@@ -1,5 +1,7 @@
 //! Fates of attempts, and the messages between nodes.
 
+ghost use Rattle.std.specs.Prelude.{◌≡◌, IfOk};
+
 use crate::byte_string::Bytes;
 use crate::ids::{AttemptId, MsgId, NodeId, RangeId, TxnId};
 use crate::list::ListOf;
@@ -10,7 +12,7 @@ use crate::timestamps::{Reading, Ts};
 use std::alloc::Global;
 
 /// What is known of an attempt's writes.
-#[derive(Clone, Copy, Debug, PartialEq, Eq)]
+#[derive(Clone, Copy, PartialEq, Eq)]
 pub enum Fate {
     /// They count at this timestamp.
     Committed(Ts),
@@ -21,7 +23,7 @@ pub enum Fate {
 }
 
 /// The fate of an attempt, as a request carries it.
-#[derive(Clone, Copy, Debug, PartialEq, Eq)]
+#[derive(Clone, Copy)]
 pub struct Known {
     pub attempt: AttemptId,
     pub fate: Fate,
@@ -29,7 +31,7 @@ pub struct Known {
 
 /// A message in flight. `clock` is the sender's reading; a `down` has none. `boot` is the boot of the
 /// requester, to which a reply goes back.
-#[derive(Debug, PartialEq, Eq, Drop)]
+#[derive(Drop)]
 pub struct Message {
     pub id: MsgId,
     pub from: NodeId,
@@ -40,14 +42,14 @@ pub struct Message {
     pub body: Body,
 }
 
-#[derive(Debug, PartialEq, Eq, Drop)]
+#[derive(Drop)]
 pub enum Body {
     Request(Request),
     Reply(Reply),
 }
 
 /// What a gateway asks of the node of a replica.
-#[derive(Debug, PartialEq, Eq, Drop)]
+#[derive(Drop)]
 pub enum Request {
     /// Read a span at a timestamp; `limit` is the wall up to which a version above it counts as uncertain.
     Read {
@@ -114,7 +116,7 @@ pub enum Request {
 }
 
 /// What the node of a replica answers.
-#[derive(Debug, PartialEq, Eq, Drop)]
+#[derive(Drop)]
 pub enum Reply {
     Rows {
         pairs: ListOf<Pair>,
@@ -195,14 +197,7 @@ impl CloneIn for Request {
                 at,
                 limit,
                 fates,
-            } => Ok(Request::Read {
-                attempt: *attempt,
-                range: *range,
-                span: span.clone_in(alloc)?,
-                at: *at,
-                limit: *limit,
-                fates: fates.clone_in(alloc)?,
-            }),
+            } => copy_of_read(alloc, *attempt, *range, span, *at, *limit, fates),
             Request::Refresh {
                 attempt,
                 range,
@@ -210,14 +205,7 @@ impl CloneIn for Request {
                 from,
                 at,
                 fates,
-            } => Ok(Request::Refresh {
-                attempt: *attempt,
-                range: *range,
-                span: span.clone_in(alloc)?,
-                from: *from,
-                at: *at,
-                fates: fates.clone_in(alloc)?,
-            }),
+            } => copy_of_refresh(alloc, *attempt, *range, span, *from, *at, fates),
             Request::Put {
                 attempt,
                 range,
@@ -227,18 +215,9 @@ impl CloneIn for Request {
                 key,
                 value,
                 fates,
-            } => {
-                Ok(Request::Put {
-                    attempt: *attempt,
-                    range: *range,
-                    start: *start,
-                    anchor: *anchor,
-                    at: *at,
-                    key: key.clone_in(alloc)?,
-                    value: value.clone_in(alloc)?,
-                    fates: fates.clone_in(alloc)?,
-                })
-            }
+            } => copy_of_put(
+                alloc, *attempt, *range, *start, *anchor, *at, key, value, fates,
+            ),
             Request::PushReader {
                 attempt,
                 range,
@@ -256,15 +235,13 @@ impl CloneIn for Request {
                 other,
                 start,
                 other_start,
-            } => {
-                Ok(Request::PushWriter {
-                    attempt: *attempt,
-                    range: *range,
-                    other: *other,
-                    start: *start,
-                    other_start: *other_start,
-                })
-            }
+            } => Ok(Request::PushWriter {
+                attempt: *attempt,
+                range: *range,
+                other: *other,
+                start: *start,
+                other_start: *other_start,
+            }),
             Request::Commit { attempt, range, at } => Ok(Request::Commit {
                 attempt: *attempt,
                 range: *range,
@@ -279,49 +256,121 @@ impl CloneIn for Request {
                 range,
                 keys,
                 fate,
-            } => Ok(Request::Resolve {
-                attempt: *attempt,
-                range: *range,
-                keys: keys.clone_in(alloc)?,
-                fate: *fate,
-            }),
+            } => copy_of_resolve(alloc, *attempt, *range, keys, *fate),
         }
     }
+}
+
+fn copy_of_read(
+    alloc: Global,
+    attempt: AttemptId,
+    range: RangeId,
+    span: &Span,
+    at: Ts,
+    limit: Option<u64>,
+    fates: &ListOf<Known>,
+) -> Result<Request, Memory>
+    ensures { IfOk result (λ copy. copy ≡ Request.Read attempt range span.now at limit fates.now) }
+{
+    let span = span.clone_in(alloc)?;
+    let fates = fates.clone_in(alloc)?;
+    Ok(Request::Read {
+        attempt,
+        range,
+        span,
+        at,
+        limit,
+        fates,
+    })
+}
+
+fn copy_of_refresh(
+    alloc: Global,
+    attempt: AttemptId,
+    range: RangeId,
+    span: &Span,
+    from: Ts,
+    at: Ts,
+    fates: &ListOf<Known>,
+) -> Result<Request, Memory>
+    ensures { IfOk result (λ copy. copy ≡ Request.Refresh attempt range span.now from at fates.now) }
+{
+    let span = span.clone_in(alloc)?;
+    let fates = fates.clone_in(alloc)?;
+    Ok(Request::Refresh {
+        attempt,
+        range,
+        span,
+        from,
+        at,
+        fates,
+    })
+}
+
+fn copy_of_put(
+    alloc: Global,
+    attempt: AttemptId,
+    range: RangeId,
+    start: Ts,
+    anchor: RangeId,
+    at: Ts,
+    key: &Bytes,
+    value: &Option<Bytes>,
+    fates: &ListOf<Known>,
+) -> Result<Request, Memory>
+    ensures { IfOk result (λ copy. copy ≡ Request.Put attempt range start anchor at key.now value.now fates.now) }
+{
+    let key = key.clone_in(alloc)?;
+    let value = value.clone_in(alloc)?;
+    let fates = fates.clone_in(alloc)?;
+    Ok(Request::Put {
+        attempt,
+        range,
+        start,
+        anchor,
+        at,
+        key,
+        value,
+        fates,
+    })
+}
+
+fn copy_of_resolve(
+    alloc: Global,
+    attempt: AttemptId,
+    range: RangeId,
+    keys: &ListOf<Bytes>,
+    fate: Fate,
+) -> Result<Request, Memory>
+    ensures { IfOk result (λ copy. copy ≡ Request.Resolve attempt range keys.now fate) }
+{
+    let keys = keys.clone_in(alloc)?;
+    Ok(Request::Resolve {
+        attempt,
+        range,
+        keys,
+        fate,
+    })
 }
 
 impl CloneIn for Reply {
     fn clone_in(&self, alloc: Global) -> Result<Reply, Memory> {
         match self {
-            Reply::Rows { pairs } => Ok(Reply::Rows {
-                pairs: pairs.clone_in(alloc)?,
-            }),
-            Reply::Uncertain { key, ts } => Ok(Reply::Uncertain {
-                key: key.clone_in(alloc)?,
-                ts: *ts,
-            }),
+            Reply::Rows { pairs } => copy_of_rows(alloc, pairs),
+            Reply::Uncertain { key, ts } => copy_of_uncertain(alloc, key, *ts),
             Reply::Unknown {
                 key,
                 attempt,
                 start,
                 anchor,
-            } => Ok(Reply::Unknown {
-                key: key.clone_in(alloc)?,
-                attempt: *attempt,
-                start: *start,
-                anchor: *anchor,
-            }),
+            } => copy_of_unknown(alloc, key, *attempt, *start, *anchor),
             Reply::Laid { ts } => Ok(Reply::Laid { ts: *ts }),
             Reply::Intent {
                 key,
                 attempt,
                 start,
                 anchor,
-            } => Ok(Reply::Intent {
-                key: key.clone_in(alloc)?,
-                attempt: *attempt,
-                start: *start,
-                anchor: *anchor,
-            }),
+            } => copy_of_intent(alloc, key, *attempt, *start, *anchor),
             Reply::Refreshed => Ok(Reply::Refreshed),
             Reply::Newer { ts } => Ok(Reply::Newer { ts: *ts }),
             Reply::Fate { attempt, fate } => Ok(Reply::Fate {
@@ -345,6 +394,56 @@ impl CloneIn for Reply {
             Reply::Down => Ok(Reply::Down),
         }
     }
+}
+
+fn copy_of_rows(alloc: Global, pairs: &ListOf<Pair>) -> Result<Reply, Memory>
+    ensures { IfOk result (λ copy. copy ≡ Reply.Rows pairs.now) }
+{
+    let pairs = pairs.clone_in(alloc)?;
+    Ok(Reply::Rows { pairs })
+}
+
+fn copy_of_uncertain(alloc: Global, key: &Bytes, ts: Ts) -> Result<Reply, Memory>
+    ensures { IfOk result (λ copy. copy ≡ Reply.Uncertain key.now ts) }
+{
+    let key = key.clone_in(alloc)?;
+    Ok(Reply::Uncertain { key, ts })
+}
+
+fn copy_of_unknown(
+    alloc: Global,
+    key: &Bytes,
+    attempt: AttemptId,
+    start: Ts,
+    anchor: RangeId,
+) -> Result<Reply, Memory>
+    ensures { IfOk result (λ copy. copy ≡ Reply.Unknown key.now attempt start anchor) }
+{
+    let key = key.clone_in(alloc)?;
+    Ok(Reply::Unknown {
+        key,
+        attempt,
+        start,
+        anchor,
+    })
+}
+
+fn copy_of_intent(
+    alloc: Global,
+    key: &Bytes,
+    attempt: AttemptId,
+    start: Ts,
+    anchor: RangeId,
+) -> Result<Reply, Memory>
+    ensures { IfOk result (λ copy. copy ≡ Reply.Intent key.now attempt start anchor) }
+{
+    let key = key.clone_in(alloc)?;
+    Ok(Reply::Intent {
+        key,
+        attempt,
+        start,
+        anchor,
+    })
 }
 
 impl CloneIn for Body {

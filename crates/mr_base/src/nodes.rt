@@ -10,11 +10,11 @@ use crate::memory::{CloneIn, Memory};
 use std::alloc::Global;
 
 /// A set of nodes from 1 to 64: node k is bit k - 1.
-#[derive(Clone, Copy, Debug, PartialEq, Eq, Hash)]
+#[derive(Clone, Copy, PartialEq, Eq)]
 pub struct NodeSet(pub u64);
 
 /// A node with the region and the zone in which it stands.
-#[derive(Debug, PartialEq, Eq, Drop)]
+#[derive(Drop)]
 pub struct NodeInfo {
     pub id: NodeId,
     pub region: Bytes,

@@ -6,7 +6,7 @@ use crate::rows::RowList;
 use std::alloc::Global;
 
 /// The verb of a row statement.
-#[derive(Clone, Copy, Debug, PartialEq, Eq)]
+#[derive(Clone, Copy, PartialEq, Eq)]
 pub enum Verb {
     Insert,
     Update,
@@ -15,7 +15,7 @@ pub enum Verb {
 }
 
 /// The answer of one statement.
-#[derive(Debug, PartialEq, Eq, Drop)]
+#[derive(Drop)]
 pub struct StatementResult {
     pub verb: Verb,
     /// How many rows it added, changed, deleted or read.

@@ -9,7 +9,7 @@ use crate::states::SqlState;
 use std::alloc::Global;
 
 /// A value of a column. Integers order by value, texts by bytes, and false stands before true.
-#[derive(Debug, PartialEq, Eq, PartialOrd, Ord, Drop)]
+#[derive(PartialEq, Eq, PartialOrd, Ord, Drop)]
 pub enum Datum {
     Int(i64),
     Text(Bytes),
@@ -23,7 +23,7 @@ pub type Row = ListOf<Datum>;
 pub type RowList = ListOf<Row>;
 
 /// Why an evaluation stopped: a fault of SQL, or want of memory.
-#[derive(Clone, Copy, Debug, PartialEq, Eq)]
+#[derive(Clone, Copy)]
 pub enum EvalFault {
     State(SqlState),
     Memory,

@@ -10,7 +10,7 @@ use std::alloc::Global;
 use std::marker::Model;
 
 /// What a script needs next.
-#[derive(Debug, PartialEq, Eq, Drop)]
+#[derive(Drop)]
 pub enum Need {
     /// The rows of a span.
     Ask(Ask),
@@ -21,7 +21,7 @@ pub enum Need {
 }
 
 /// A span that was asked, with the rows that it was fed.
-#[derive(Debug, PartialEq, Eq, Drop)]
+#[derive(Drop)]
 pub struct Fed {
     pub ask: Ask,
     pub rows: ListOf<Pair>,

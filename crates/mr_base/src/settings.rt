@@ -2,7 +2,7 @@
 
 /// The settings of a cluster, each in milliseconds. Source: this project's profile; the names are those
 /// of CockroachDB's settings for the same things where it has them.
-#[derive(Clone, Copy, Debug, PartialEq, Eq)]
+#[derive(Clone, Copy)]
 pub struct Settings {
     /// How far two clocks may differ.
     pub max_offset: u64,
@@ -17,7 +17,7 @@ pub struct Settings {
 }
 
 /// The time at which a transaction reads.
-#[derive(Clone, Copy, Debug, PartialEq, Eq)]
+#[derive(Clone, Copy)]
 pub enum Kind {
     /// At its start.
     Now,

@@ -6,28 +6,28 @@ use crate::memory::{CloneIn, Memory};
 use std::alloc::Global;
 
 /// The keys from `lo` up to and without `hi`.
-#[derive(Debug, PartialEq, Eq, PartialOrd, Ord, Drop)]
+#[derive(Drop)]
 pub struct Span {
     pub lo: Bytes,
     pub hi: Bytes,
 }
 
 /// A key with its value.
-#[derive(Debug, PartialEq, Eq, Drop)]
+#[derive(Drop)]
 pub struct Pair {
     pub key: Bytes,
     pub value: Bytes,
 }
 
 /// A span that a transaction wants to read, in its range.
-#[derive(Debug, PartialEq, Eq, Drop)]
+#[derive(Drop)]
 pub struct Ask {
     pub range: RangeId,
     pub span: Span,
 }
 
 /// The last value that a transaction gives to a key; without a value the key is deleted.
-#[derive(Debug, PartialEq, Eq, Drop)]
+#[derive(Drop)]
 pub struct Write {
     pub range: RangeId,
     pub key: Bytes,

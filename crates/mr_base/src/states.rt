@@ -5,7 +5,7 @@ ghost use Rattle.std.specs.Prelude.{◌≡◌};
 use std::fmt;
 
 /// A SQLSTATE code of the PostgreSQL list; the variant `S22003` is the code 22003.
-#[derive(Clone, Copy, Debug, PartialEq, Eq)]
+#[derive(Clone, Copy, PartialEq, Eq)]
 pub enum SqlState {
     /// feature_not_supported: a bounded-staleness read that isn't one SELECT
     S0A000,

@@ -8,7 +8,7 @@ use std::fmt;
 /// A point of the one order in which transactions take their place: a wall time in milliseconds, a
 /// logical part, and the number of the attempt that owns it, 0 for clocks, leases and closed
 /// timestamps. Source: this project's profile, after the hybrid logical clocks of Taft et al., SIGMOD 2020.
-#[derive(Clone, Copy, Debug, PartialEq, Eq, PartialOrd, Ord, Hash)]
+#[derive(Clone, Copy, PartialEq, Eq, PartialOrd, Ord)]
 pub struct Ts {
     pub wall: u64,
     pub logical: u64,
@@ -16,7 +16,7 @@ pub struct Ts {
 }
 
 /// What a clock shows: a wall time in milliseconds and a logical part.
-#[derive(Clone, Copy, Debug, PartialEq, Eq, PartialOrd, Ord, Hash)]
+#[derive(Clone, Copy, PartialEq, Eq, PartialOrd, Ord)]
 pub struct Reading {
     pub wall: u64,
     pub logical: u64,

@@ -16,6 +16,3 @@ pub use mem_source::{MemSource, WholeSource};
 pub use sink::{Sink, write_all};
 pub use source::Source;
 pub use std_streams::{StdSink, StdSource};
-
-#[cfg(test)]
-mod tests;

@@ -4,6 +4,3 @@
 mod places;
 
 pub use places::NamePlaces;
-
-#[cfg(test)]
-mod tests;

@@ -4,6 +4,3 @@
 mod entries;
 
 pub use entries::{Entry, Lease, RetryCause, TxnState};
-
-#[cfg(test)]
-mod tests;

@@ -1,7 +1,7 @@
 //! What may want memory, with ample memory.
 
-use super::*;
 use mr_base::{AttemptId, Bytes, CloneIn, RangeId, Ts};
+use range_log::{Entry, RetryCause};
 use std::test::Fail;
 
 #[test]

@@ -2,8 +2,10 @@
 
 ghost use Rattle.std.specs.Prelude.{◌≤◌, IfOk};
 
-use super::*;
 use mr_base::Memory;
+use mr_io::{
+    CountSink, Failed, MemSink, MemSource, Sink, Source, StdSink, StdSource, WholeSource, write_all,
+};
 use std::alloc::Global;
 use std::io::{self, ErrorKind, Read, Write};
 use std::test::Fail;

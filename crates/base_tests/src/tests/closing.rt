@@ -1,6 +1,6 @@
 //! A range of five replicas through the calls, with walls in milliseconds.
 
-use super::*;
+use closed_ts::{by_closure, by_lease, next_target, target};
 use mr_base::{NodeId, NodeSet, Reading, Settings, Ts};
 use range_log::Lease;
 

@@ -1,6 +1,6 @@
 //! What words are a command.
 
-use super::*;
+use command_words::{Command, command_of};
 use std::alloc::Global;
 use std::test::Fail;
 

@@ -1,7 +1,7 @@
 //! Names that are inserted, found and copied, with ample memory.
 
-use crate::NamePlaces;
 use mr_base::CloneIn;
+use name_places::NamePlaces;
 use std::test::Fail;
 
 #[test]

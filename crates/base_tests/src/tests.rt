@@ -1,0 +1,6 @@
+mod base;
+mod closing;
+mod logs;
+mod places;
+mod streams;
+mod words;
