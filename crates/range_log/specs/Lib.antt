@@ -1,1 +1,4 @@
+pub mod Appends
 pub mod Facts
+pub mod Kept
+pub mod LogValue

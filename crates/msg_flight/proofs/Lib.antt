@@ -1,0 +1,4 @@
+pub mod FiledLemmas
+pub mod FreeLemmas
+pub mod SentLemmas
+pub mod TakenLemmas

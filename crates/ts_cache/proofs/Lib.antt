@@ -1,0 +1,7 @@
+pub mod CacheLemmas
+pub mod HeldLemmas
+pub mod HighLemmas
+pub mod IndexLemmas
+pub mod KeyLemmas
+pub mod Order
+pub mod RenewLemmas

@@ -1,0 +1,5 @@
+pub mod Cached
+pub mod Held
+pub mod Indexed
+pub mod Meeting
+pub mod Value
