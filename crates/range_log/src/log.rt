@@ -22,7 +22,7 @@ pub struct RangeLog {
 }
 
 /// Why an entry wasn't appended.
-#[derive(Clone, Copy, Debug, PartialEq, Eq)]
+#[derive(Clone, Copy, PartialEq, Eq)]
 pub enum AppendRefusal {
     /// The appender doesn't believe in the last lease, which has this sequence.
     Stale { seq: u32 },
