@@ -10,7 +10,7 @@ use std::alloc::Global;
 use zone_report::Format;
 
 /// What the program is asked to do.
-#[derive(Clone, Copy, Debug, PartialEq, Eq)]
+#[derive(Clone, Copy)]
 pub enum Task {
     /// Read a scenario, run it and write a report of this mode.
     Run(Mode),
