@@ -1,5 +1,6 @@
 //! The lines of a scenario: what each form says, each fault, which of two faults goes first, and the limits.
 
+mod events;
 mod faults;
 mod forms;
 mod limits;
@@ -100,4 +101,15 @@ fn number_of(read: Result<Line, LineFault>) -> u8 {
 /// The fault of a line behind the lines of `head`, or 0.
 fn fault_behind(alloc: Global, head: &[u8], line: &[u8]) -> u8 {
     number_of(read_behind(alloc, false, head, line))
+}
+
+/// How many of the lines, each behind the lines that come with it, are answered by the fault beside them,
+/// up to the first that isn't.
+fn answered(alloc: Global, lines: &[(&[u8], &[u8], u8)]) -> usize {
+    for (i, (head, line, fault)) in lines.iter().enumerate() {
+        if fault_behind(alloc, head, line) != *fault {
+            return i;
+        }
+    }
+    lines.len()
 }

@@ -1,5 +1,5 @@
 //! Each kind of entry with its text, and each public call with ample memory. An entry stands in a function
-//! by its place among the texts.
+//! by its place in a family of entries.
 
 mod answers;
 mod counts;
@@ -62,14 +62,59 @@ fn names(alloc: Global) -> Result<ListOf<Bytes>, Memory> {
     Ok(names)
 }
 
-/// Whether a report of this mode shows the entry so.
+/// Which entries are shown.
+#[derive(Clone, Copy)]
+enum Family {
+    Answers,
+    Entries,
+    Insert,
+    Leases,
+    Refusals,
+    Replies,
+    Requests,
+    Retries,
+    Shows,
+    Statements,
+    Steps,
+}
+
+/// The entry at a place of its family.
+fn entry(alloc: Global, family: Family, place: usize) -> Result<JournalEntry, Memory> {
+    match family {
+        Family::Answers => answers::answer(alloc, place),
+        Family::Entries => entries::append(alloc, place),
+        Family::Insert => insert::step(alloc, place),
+        Family::Leases => Ok(states::lease(place)),
+        Family::Refusals => Ok(answers::refusal(place)),
+        Family::Replies => replies::replied(alloc, place),
+        Family::Requests => requests::asked(alloc, place),
+        Family::Retries => steps::retry(alloc, place),
+        Family::Shows => states::state(alloc, place),
+        Family::Statements => states::statement(alloc, place),
+        Family::Steps => Ok(steps::step(place)),
+    }
+}
+
+/// Whether a report of this mode shows the entry at a place so.
 fn is_shown(
     alloc: Global,
     mode: Mode,
-    entry: &JournalEntry,
+    family: Family,
+    place: usize,
     wanted: &[u8],
 ) -> Result<bool, Memory> {
+    let entry = entry(alloc, family, place)?;
     let names = names(alloc)?;
-    let text = text_of(alloc, names.as_slice(), entry, mode)?;
+    let text = text_of(alloc, names.as_slice(), &entry, mode)?;
     Ok(text.as_slice() == wanted)
+}
+
+/// How many entries of a family have these texts, up to the first that hasn't.
+fn shown(alloc: Global, mode: Mode, family: Family, texts: &[&[u8]]) -> Result<usize, Memory> {
+    for (place, wanted) in texts.iter().enumerate() {
+        if !is_shown(alloc, mode, family, place, wanted)? {
+            return Ok(place);
+        }
+    }
+    Ok(texts.len())
 }

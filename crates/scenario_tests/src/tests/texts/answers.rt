@@ -1,6 +1,6 @@
 //! The answers of transactions.
 
-use super::{START, bytes, is_shown, stopped};
+use super::{Family, START, bytes, shown, stopped};
 use journal::{JournalEntry, StatementResult, Verb, Why};
 use journal_text::Mode;
 use mr_base::{AttemptId, Datum, ListOf, Memory, MsgId, RangeId, Row, RowList, SqlState, TxnId};
@@ -55,7 +55,7 @@ const ANSWERS: [&[u8]; 3] = [
     b"lost t2\n",
 ];
 
-fn answer(alloc: Global, place: usize) -> Result<JournalEntry, Memory> {
+pub(super) fn answer(alloc: Global, place: usize) -> Result<JournalEntry, Memory> {
     let txn = TxnId(1);
     let ts = START;
     match place {
@@ -75,13 +75,10 @@ fn answer(alloc: Global, place: usize) -> Result<JournalEntry, Memory> {
 
 #[test]
 fn answers_are_written(rt: HostRuntime) -> Result<(), Fail> {
-    for (place, wanted) in ANSWERS.iter().enumerate() {
-        let entry = answer(rt.alloc(), place)?;
-        assert!(rt;
-            is_shown(rt.alloc(), Mode::Answers, &entry, wanted)?,
-            "at {place}"
-        );
-    }
+    assert_eq!(rt;
+        shown(rt.alloc(), Mode::Answers, Family::Answers, &ANSWERS)?,
+        ANSWERS.len()
+    );
     Ok(())
 }
 
@@ -118,17 +115,18 @@ fn why(place: usize) -> Why {
     }
 }
 
+pub(super) fn refusal(place: usize) -> JournalEntry {
+    JournalEntry::Refuse {
+        txn: TxnId(1),
+        why: why(place),
+    }
+}
+
 #[test]
 fn refusals_are_written(rt: HostRuntime) -> Result<(), Fail> {
-    for (place, wanted) in REFUSALS.iter().enumerate() {
-        let entry = JournalEntry::Refuse {
-            txn: TxnId(1),
-            why: why(place),
-        };
-        assert!(rt;
-            is_shown(rt.alloc(), Mode::Answers, &entry, wanted)?,
-            "at {place}"
-        );
-    }
+    assert_eq!(rt;
+        shown(rt.alloc(), Mode::Answers, Family::Refusals, &REFUSALS)?,
+        REFUSALS.len()
+    );
     Ok(())
 }

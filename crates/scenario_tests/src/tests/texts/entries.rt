@@ -1,6 +1,6 @@
 //! The log entries that an insert doesn't make.
 
-use super::{START, bytes, is_shown};
+use super::{Family, START, bytes, shown};
 use journal::JournalEntry;
 use journal_text::Mode;
 use mr_base::{AttemptId, Memory, RangeId, Ts};
@@ -35,18 +35,19 @@ fn log_entry(alloc: Global, place: usize) -> Result<Entry, Memory> {
     }
 }
 
+pub(super) fn append(alloc: Global, place: usize) -> Result<JournalEntry, Memory> {
+    Ok(JournalEntry::Append {
+        range: RangeId(1),
+        index: 5,
+        entry: log_entry(alloc, place)?,
+    })
+}
+
 #[test]
 fn log_entries_are_written(rt: HostRuntime) -> Result<(), Fail> {
-    for (place, wanted) in ENTRIES.iter().enumerate() {
-        let entry = JournalEntry::Append {
-            range: RangeId(1),
-            index: 5,
-            entry: log_entry(rt.alloc(), place)?,
-        };
-        assert!(rt;
-            is_shown(rt.alloc(), Mode::Trace, &entry, wanted)?,
-            "at {place}"
-        );
-    }
+    assert_eq!(rt;
+        shown(rt.alloc(), Mode::Trace, Family::Entries, &ENTRIES)?,
+        ENTRIES.len()
+    );
     Ok(())
 }

@@ -1,6 +1,6 @@
 //! The trace of one insert, from `begin` on.
 
-use super::{START, bytes, first_key, is_shown, span};
+use super::{Family, START, bytes, first_key, shown, span};
 use journal::{How, JournalEntry, StatementResult, Verb};
 use journal_text::Mode;
 use mr_base::{AttemptId, Fate, ListOf, Memory, NodeId, RangeId, Ts, TxnId};
@@ -73,7 +73,7 @@ const TRACE: [&[u8]; 9] = [
     b"ack t1 1000.0.1\n= insert 1\n",
 ];
 
-fn step(alloc: Global, place: usize) -> Result<JournalEntry, Memory> {
+pub(super) fn step(alloc: Global, place: usize) -> Result<JournalEntry, Memory> {
     let attempt = AttemptId(1);
     match place {
         0 => Ok(JournalEntry::Event { line: 5 }),
@@ -108,20 +108,33 @@ fn step(alloc: Global, place: usize) -> Result<JournalEntry, Memory> {
     }
 }
 
-/// Whether the entry is shown so by a trace, and by the answers alone where it is one; a summary shows none.
-fn is_in_each_mode(alloc: Global, place: usize, wanted: &[u8]) -> Result<bool, Memory> {
-    let entry = step(alloc, place)?;
-    let answer: &[u8] = if place == 8 { wanted } else { b"" };
-    let traced = is_shown(alloc, Mode::Trace, &entry, wanted)?;
-    let answered = is_shown(alloc, Mode::Answers, &entry, answer)?;
-    let summed = is_shown(alloc, Mode::Summary, &entry, b"")?;
-    Ok(traced && answered && summed)
-}
+/// What the answers alone show of it.
+const ANSWERED: [&[u8]; 9] = [
+    b"",
+    b"",
+    b"",
+    b"",
+    b"",
+    b"",
+    b"",
+    b"",
+    b"ack t1 1000.0.1\n= insert 1\n",
+];
+
+/// What a summary shows of it.
+const SUMMED: [&[u8]; 9] = [b""; 9];
+
+/// What each mode shows of it.
+const MODES: [(Mode, &[&[u8]]); 3] = [
+    (Mode::Trace, &TRACE),
+    (Mode::Answers, &ANSWERED),
+    (Mode::Summary, &SUMMED),
+];
 
 #[test]
 fn an_insert_is_traced(rt: HostRuntime) -> Result<(), Fail> {
-    for (place, wanted) in TRACE.iter().enumerate() {
-        assert!(rt; is_in_each_mode(rt.alloc(), place, wanted)?, "at {place}");
+    for (mode, texts) in MODES {
+        assert_eq!(rt; shown(rt.alloc(), mode, Family::Insert, texts)?, 9);
     }
     Ok(())
 }

@@ -1,6 +1,6 @@
 //! The replies to gateways.
 
-use super::{START, bytes, is_shown, sent, stopped};
+use super::{Family, START, bytes, sent, shown, stopped};
 use journal::{JournalEntry, Shown};
 use journal_text::Mode;
 use mr_base::{AttemptId, Fate, Memory, MsgId, NodeId, RangeId, Reply};
@@ -73,7 +73,7 @@ fn reply_to_push(place: usize) -> Reply {
     }
 }
 
-fn replied(alloc: Global, place: usize) -> Result<JournalEntry, Memory> {
+pub(super) fn replied(alloc: Global, place: usize) -> Result<JournalEntry, Memory> {
     match place {
         0 => Ok(sent(Shown::Rows { count: 2 })),
         1..=6 => Ok(sent(Shown::Reply(reply_to_read(alloc, place)?))),
@@ -90,12 +90,9 @@ fn replied(alloc: Global, place: usize) -> Result<JournalEntry, Memory> {
 
 #[test]
 fn replies_are_written(rt: HostRuntime) -> Result<(), Fail> {
-    for (place, wanted) in REPLIES.iter().enumerate() {
-        let entry = replied(rt.alloc(), place)?;
-        assert!(rt;
-            is_shown(rt.alloc(), Mode::Trace, &entry, wanted)?,
-            "at {place}"
-        );
-    }
+    assert_eq!(rt;
+        shown(rt.alloc(), Mode::Trace, Family::Replies, &REPLIES)?,
+        REPLIES.len()
+    );
     Ok(())
 }

@@ -1,7 +1,7 @@
 //! The requests of gateways.
 
-use super::{START, bytes, is_shown, sent, span};
-use journal::Shown;
+use super::{Family, START, bytes, sent, shown, span};
+use journal::{JournalEntry, Shown};
 use journal_text::Mode;
 use mr_base::{AttemptId, Bytes, Fate, Known, ListOf, Memory, RangeId, Request};
 use std::alloc::Global;
@@ -107,14 +107,15 @@ fn request(alloc: Global, place: usize) -> Result<Request, Memory> {
     }
 }
 
+pub(super) fn asked(alloc: Global, place: usize) -> Result<JournalEntry, Memory> {
+    Ok(sent(Shown::Request(request(alloc, place)?)))
+}
+
 #[test]
 fn requests_are_written(rt: HostRuntime) -> Result<(), Fail> {
-    for (place, wanted) in REQUESTS.iter().enumerate() {
-        let entry = sent(Shown::Request(request(rt.alloc(), place)?));
-        assert!(rt;
-            is_shown(rt.alloc(), Mode::Trace, &entry, wanted)?,
-            "at {place}"
-        );
-    }
+    assert_eq!(rt;
+        shown(rt.alloc(), Mode::Trace, Family::Requests, &REQUESTS)?,
+        REQUESTS.len()
+    );
     Ok(())
 }

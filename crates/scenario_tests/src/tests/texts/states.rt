@@ -1,6 +1,6 @@
 //! The lines of leases, of region statements, and of what a scenario asks to be shown.
 
-use super::{START, bytes, is_shown, stopped};
+use super::{Family, START, bytes, shown, stopped};
 use journal::{JournalEntry, LeaseWhy, SqlWhy};
 use journal_text::Mode;
 use mr_base::{ListOf, Memory, MsgId, NodeId, RangeId, Reading, SqlState, Ts};
@@ -25,7 +25,7 @@ fn lease_why(place: usize) -> LeaseWhy {
     }
 }
 
-fn lease(place: usize) -> JournalEntry {
+pub(super) fn lease(place: usize) -> JournalEntry {
     let range = RangeId(1);
     match place {
         0 => JournalEntry::Lease {
@@ -47,13 +47,10 @@ fn lease(place: usize) -> JournalEntry {
 
 #[test]
 fn leases_are_written(rt: HostRuntime) -> Result<(), Fail> {
-    for (place, wanted) in LEASES.iter().enumerate() {
-        let entry = lease(place);
-        assert!(rt;
-            is_shown(rt.alloc(), Mode::Answers, &entry, wanted)?,
-            "at {place}"
-        );
-    }
+    assert_eq!(rt;
+        shown(rt.alloc(), Mode::Answers, Family::Leases, &LEASES)?,
+        LEASES.len()
+    );
     Ok(())
 }
 
@@ -83,7 +80,7 @@ fn sql_why(alloc: Global, place: usize) -> Result<SqlWhy, Memory> {
     }
 }
 
-fn statement(alloc: Global, place: usize) -> Result<JournalEntry, Memory> {
+pub(super) fn statement(alloc: Global, place: usize) -> Result<JournalEntry, Memory> {
     if place == 5 {
         return Ok(JournalEntry::Schema { ts: START });
     }
@@ -94,13 +91,10 @@ fn statement(alloc: Global, place: usize) -> Result<JournalEntry, Memory> {
 
 #[test]
 fn statements_are_written(rt: HostRuntime) -> Result<(), Fail> {
-    for (place, wanted) in STATEMENTS.iter().enumerate() {
-        let entry = statement(rt.alloc(), place)?;
-        assert!(rt;
-            is_shown(rt.alloc(), Mode::Answers, &entry, wanted)?,
-            "at {place}"
-        );
-    }
+    assert_eq!(rt;
+        shown(rt.alloc(), Mode::Answers, Family::Statements, &STATEMENTS)?,
+        STATEMENTS.len()
+    );
     Ok(())
 }
 
@@ -139,7 +133,7 @@ fn node(running: bool) -> JournalEntry {
     }
 }
 
-fn shown(alloc: Global, place: usize) -> Result<JournalEntry, Memory> {
+pub(super) fn state(alloc: Global, place: usize) -> Result<JournalEntry, Memory> {
     match place {
         0 => Ok(JournalEntry::ShowRange {
             range: RangeId(1),
@@ -166,12 +160,9 @@ fn shown(alloc: Global, place: usize) -> Result<JournalEntry, Memory> {
 
 #[test]
 fn shows_are_written(rt: HostRuntime) -> Result<(), Fail> {
-    for (place, wanted) in SHOWS.iter().enumerate() {
-        let entry = shown(rt.alloc(), place)?;
-        assert!(rt;
-            is_shown(rt.alloc(), Mode::Answers, &entry, wanted)?,
-            "at {place}"
-        );
-    }
+    assert_eq!(rt;
+        shown(rt.alloc(), Mode::Answers, Family::Shows, &SHOWS)?,
+        SHOWS.len()
+    );
     Ok(())
 }

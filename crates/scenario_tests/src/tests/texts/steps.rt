@@ -1,6 +1,6 @@
 //! The steps between answers.
 
-use super::{START, bytes, is_shown};
+use super::{Family, START, bytes, shown};
 use journal::JournalEntry;
 use journal_text::Mode;
 use mr_base::{AttemptId, Fate, Memory, MsgId, NodeId, RangeId, TxnId};
@@ -18,7 +18,7 @@ const STEPS: [&[u8]; 6] = [
 ];
 
 /// What becomes of messages, what attempts learn, and what replicas apply.
-fn step(place: usize) -> JournalEntry {
+pub(super) fn step(place: usize) -> JournalEntry {
     let id = MsgId(7);
     let attempt = AttemptId(2);
     match place {
@@ -47,13 +47,10 @@ fn step(place: usize) -> JournalEntry {
 
 #[test]
 fn steps_are_written(rt: HostRuntime) -> Result<(), Fail> {
-    for (place, wanted) in STEPS.iter().enumerate() {
-        let entry = step(place);
-        assert!(rt;
-            is_shown(rt.alloc(), Mode::Trace, &entry, wanted)?,
-            "at {place}"
-        );
-    }
+    assert_eq!(rt;
+        shown(rt.alloc(), Mode::Trace, Family::Steps, &STEPS)?,
+        STEPS.len()
+    );
     Ok(())
 }
 
@@ -74,18 +71,19 @@ fn cause(alloc: Global, place: usize) -> Result<RetryCause, Memory> {
     }
 }
 
+pub(super) fn retry(alloc: Global, place: usize) -> Result<JournalEntry, Memory> {
+    Ok(JournalEntry::Retry {
+        txn: TxnId(1),
+        attempt: AttemptId(3),
+        cause: cause(alloc, place)?,
+    })
+}
+
 #[test]
 fn retries_are_written(rt: HostRuntime) -> Result<(), Fail> {
-    for (place, wanted) in RETRIES.iter().enumerate() {
-        let entry = JournalEntry::Retry {
-            txn: TxnId(1),
-            attempt: AttemptId(3),
-            cause: cause(rt.alloc(), place)?,
-        };
-        assert!(rt;
-            is_shown(rt.alloc(), Mode::Trace, &entry, wanted)?,
-            "at {place}"
-        );
-    }
+    assert_eq!(rt;
+        shown(rt.alloc(), Mode::Trace, Family::Retries, &RETRIES)?,
+        RETRIES.len()
+    );
     Ok(())
 }
