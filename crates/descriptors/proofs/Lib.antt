@@ -1,5 +1,5 @@
 mod Additions
-mod Creations
+pub mod Creations
 mod Edits
 pub mod Found
 mod Index

@@ -62,6 +62,16 @@ lives_in region None = false
 abbrev pub primary_region : Database → Option (List ℕ)
 primary_region d = option_and_then (slice_get d.regions) d.primary
 
+-- The database that USE and ALTER DATABASE name.
+abbrev pub named_database : RegionStatement → Option (List ℕ)
+named_database (Use name) = Some name
+named_database (SetPrimary name region) = Some name
+named_database (AddRegion name region) = Some name
+named_database (DropRegion name region) = Some name
+named_database (Survive name goal) = Some name
+named_database (Placement name restricted) = Some name
+named_database _ = None
+
 -- 3D000: the database isn't there, or there is no current one.
 abbrev pub lacks_database : Contents → RegionStatement → Bool
 lacks_database c (CreateDatabase name primary regions goal) = false

@@ -1,10 +1,12 @@
 //! Which refusal a statement meets, the first of the table.
 
-ghost use Rattle.std.specs.Prelude.{◌≡◌, ◌||◌, IfOk, length, nat_le};
+ghost use Rattle.std.specs.Prelude.{◌≡◌, ℕ, ◌||◌, List, Some, IfOk, length, nat_le};
 ghost use Rattle.descriptors.specs.Columns.{make_no_table};
-ghost use Rattle.descriptors.specs.Refusals.{refusal_of};
+ghost use Rattle.descriptors.specs.Contents.{database_named};
+ghost use Rattle.descriptors.specs.Refusals.{named_database, refusal_of};
 
 use crate::columns::make_no_table;
+use crate::database::Database;
 use crate::lists::{has_name, has_twice};
 use crate::refusals::CatalogRefusal;
 use crate::rules::{
@@ -31,23 +33,14 @@ impl Store {
                 regions.as_slice(),
                 *goal,
             )),
-            RegionStatement::Use { name } => Ok(self.refusal_of_use(name.as_slice())),
-            RegionStatement::SetPrimary { database, region } => {
-                Ok(self.refusal_of_set_primary(database.as_slice(), region.as_slice()))
+            RegionStatement::Use { name: database }
+            | RegionStatement::SetPrimary { database, .. }
+            | RegionStatement::AddRegion { database, .. }
+            | RegionStatement::DropRegion { database, .. }
+            | RegionStatement::Survive { database, .. }
+            | RegionStatement::Placement { database, .. } => {
+                Ok(self.refusal_at_database(s, database.as_slice()))
             }
-            RegionStatement::AddRegion { database, region } => {
-                Ok(self.refusal_of_add_region(database.as_slice(), region.as_slice()))
-            }
-            RegionStatement::DropRegion { database, region } => {
-                Ok(self.refusal_of_drop_region(database.as_slice(), region.as_slice()))
-            }
-            RegionStatement::Survive { database, goal } => {
-                Ok(self.refusal_of_survive(database.as_slice(), *goal))
-            }
-            RegionStatement::Placement {
-                database,
-                restricted,
-            } => Ok(self.refusal_of_placement(database.as_slice(), *restricted)),
             RegionStatement::CreateTable {
                 name,
                 items,
@@ -102,105 +95,102 @@ impl Store {
         make_no_table(self.alloc, items)
     }
 
-    /// USE
-    fn refusal_of_use(&self, name: &[u8]) -> Option<CatalogRefusal>
-        ensures { result ≡ refusal_of self.now (RegionStatement.Use name.now) }
+    /// USE and ALTER DATABASE, which name a database.
+    fn refusal_at_database(&self, s: &RegionStatement, name: &[u8]) -> Option<CatalogRefusal>
+        requires { named_database s.now ≡ Some name.now }
+        ensures { result ≡ refusal_of self.now s.now }
     {
-        match self.database(name) {
-            Some(_) => None,
-            None => Some(CatalogRefusal::State(SqlState::S3D000)),
+        let Some(database) = self.database(name) else {
+            return Some(CatalogRefusal::State(SqlState::S3D000));
+        };
+        match s {
+            RegionStatement::SetPrimary { region, .. } => {
+                self.refusal_of_set_primary(database, region.as_slice())
+            }
+            RegionStatement::AddRegion { region, .. } => {
+                self.refusal_of_add_region(database, region.as_slice())
+            }
+            RegionStatement::DropRegion { region, .. } => {
+                self.refusal_of_drop_region(name, database, region.as_slice())
+            }
+            RegionStatement::Survive { goal, .. } => self.refusal_of_survive(database, *goal),
+            RegionStatement::Placement { restricted, .. } => {
+                self.refusal_of_placement(database, *restricted)
+            }
+            _ => None,
         }
     }
 
     /// ALTER DATABASE .. SET PRIMARY REGION
-    fn refusal_of_set_primary(&self, name: &[u8], region: &[u8]) -> Option<CatalogRefusal>
-        ensures { result ≡ refusal_of self.now (RegionStatement.SetPrimary name.now region.now) }
+    fn refusal_of_set_primary(&self, database: &Database, region: &[u8]) -> Option<CatalogRefusal>
+        ensures { (name : List ℕ) → database_named name self.now.databases ≡ Some database.now
+            → result ≡ refusal_of self.now (RegionStatement.SetPrimary name region.now) }
     {
-        match self.database(name) {
-            Some(database) => {
-                let away = !has_name(self.regions.as_slice(), region);
-                first_of(&[
-                    (!database.has_regions() && away, CatalogRefusal::D(1)),
-                    (database.misses_region(region), CatalogRefusal::D(3)),
-                ])
-            }
-            None => Some(CatalogRefusal::State(SqlState::S3D000)),
-        }
+        let away = !has_name(self.regions.as_slice(), region);
+        first_of(&[
+            (!database.has_regions() && away, CatalogRefusal::D(1)),
+            (database.misses_region(region), CatalogRefusal::D(3)),
+        ])
     }
 
     /// ALTER DATABASE .. ADD REGION
-    fn refusal_of_add_region(&self, name: &[u8], region: &[u8]) -> Option<CatalogRefusal>
-        ensures { result ≡ refusal_of self.now (RegionStatement.AddRegion name.now region.now) }
+    fn refusal_of_add_region(&self, database: &Database, region: &[u8]) -> Option<CatalogRefusal>
+        ensures { (name : List ℕ) → database_named name self.now.databases ≡ Some database.now
+            → result ≡ refusal_of self.now (RegionStatement.AddRegion name region.now) }
     {
-        match self.database(name) {
-            Some(database) => first_of(&[
-                (
-                    !has_name(self.regions.as_slice(), region),
-                    CatalogRefusal::D(1),
-                ),
-                (
-                    has_name(database.regions.as_slice(), region),
-                    CatalogRefusal::D(2),
-                ),
-                (!database.has_regions(), CatalogRefusal::D(4)),
-            ]),
-            None => Some(CatalogRefusal::State(SqlState::S3D000)),
-        }
+        let away = !has_name(self.regions.as_slice(), region);
+        let again = has_name(database.regions.as_slice(), region);
+        first_of(&[
+            (away, CatalogRefusal::D(1)),
+            (again, CatalogRefusal::D(2)),
+            (!database.has_regions(), CatalogRefusal::D(4)),
+        ])
     }
 
     /// ALTER DATABASE .. DROP REGION
-    fn refusal_of_drop_region(&self, name: &[u8], region: &[u8]) -> Option<CatalogRefusal>
-        ensures { result ≡ refusal_of self.now (RegionStatement.DropRegion name.now region.now) }
+    fn refusal_of_drop_region(
+        &self,
+        name: &[u8],
+        database: &Database,
+        region: &[u8],
+    ) -> Option<CatalogRefusal>
+        ensures { database_named name.now self.now.databases ≡ Some database.now
+            → result ≡ refusal_of self.now (RegionStatement.DropRegion name.now region.now) }
     {
-        match self.database(name) {
-            Some(database) => {
-                let few = count_without(region, database.regions.as_slice()) < 3;
-                first_of(&[
-                    (database.misses_region(region), CatalogRefusal::D(3)),
-                    (!database.has_regions(), CatalogRefusal::D(4)),
-                    (survives_region(database.goal) && few, CatalogRefusal::D(5)),
-                    (database.is_primary(region), CatalogRefusal::D(6)),
-                    (has_home(&self.tables, name, region), CatalogRefusal::D(9)),
-                ])
-            }
-            None => Some(CatalogRefusal::State(SqlState::S3D000)),
-        }
+        let few = count_without(region, database.regions.as_slice()) < 3;
+        first_of(&[
+            (database.misses_region(region), CatalogRefusal::D(3)),
+            (!database.has_regions(), CatalogRefusal::D(4)),
+            (survives_region(database.goal) && few, CatalogRefusal::D(5)),
+            (database.is_primary(region), CatalogRefusal::D(6)),
+            (has_home(&self.tables, name, region), CatalogRefusal::D(9)),
+        ])
     }
 
     /// ALTER DATABASE .. SURVIVE
-    fn refusal_of_survive(&self, name: &[u8], goal: Goal) -> Option<CatalogRefusal>
-        ensures { result ≡ refusal_of self.now (RegionStatement.Survive name.now goal) }
+    fn refusal_of_survive(&self, database: &Database, goal: Goal) -> Option<CatalogRefusal>
+        ensures { (name : List ℕ) → database_named name self.now.databases ≡ Some database.now
+            → result ≡ refusal_of self.now (RegionStatement.Survive name goal) }
     {
-        match self.database(name) {
-            Some(database) => {
-                let few = database.regions.len() < 3;
-                first_of(&[
-                    (!database.has_regions(), CatalogRefusal::D(4)),
-                    (survives_region(goal) && few, CatalogRefusal::D(5)),
-                    (
-                        survives_region(goal) && database.restricted,
-                        CatalogRefusal::D(11),
-                    ),
-                ])
-            }
-            None => Some(CatalogRefusal::State(SqlState::S3D000)),
-        }
+        let few = database.regions.len() < 3;
+        let restricted = database.restricted;
+        first_of(&[
+            (!database.has_regions(), CatalogRefusal::D(4)),
+            (survives_region(goal) && few, CatalogRefusal::D(5)),
+            (survives_region(goal) && restricted, CatalogRefusal::D(11)),
+        ])
     }
 
     /// ALTER DATABASE .. PLACEMENT
-    fn refusal_of_placement(&self, name: &[u8], restricted: bool) -> Option<CatalogRefusal>
-        ensures { result ≡ refusal_of self.now (RegionStatement.Placement name.now restricted) }
+    fn refusal_of_placement(&self, database: &Database, restricted: bool) -> Option<CatalogRefusal>
+        ensures { (name : List ℕ) → database_named name self.now.databases ≡ Some database.now
+            → result ≡ refusal_of self.now (RegionStatement.Placement name restricted) }
     {
-        match self.database(name) {
-            Some(database) => first_of(&[
-                (!database.has_regions(), CatalogRefusal::D(4)),
-                (
-                    restricted && survives_region(database.goal),
-                    CatalogRefusal::D(11),
-                ),
-            ]),
-            None => Some(CatalogRefusal::State(SqlState::S3D000)),
-        }
+        let survives = survives_region(database.goal);
+        first_of(&[
+            (!database.has_regions(), CatalogRefusal::D(4)),
+            (restricted && survives, CatalogRefusal::D(11)),
+        ])
     }
 
     /// ALTER TABLE .. SET LOCALITY

@@ -19,6 +19,3 @@ pub use database::Database;
 pub use laws::new_names_are_utf8;
 pub use refusals::CatalogRefusal;
 pub use table::Table;
-
-#[cfg(test)]
-mod tests;

@@ -30,6 +30,3 @@ pub use row_statements::{
 };
 pub use statements::{List, ParseFault, Statement};
 pub use tokens::{Key, Sign, Soft, Token};
-
-#[cfg(test)]
-mod tests;

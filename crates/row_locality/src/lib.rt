@@ -4,6 +4,3 @@
 mod one_column_rows;
 
 pub use one_column_rows::{one_column_point, one_column_row, one_column_span, one_column_value};
-
-#[cfg(test)]
-mod tests;

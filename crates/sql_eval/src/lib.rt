@@ -5,6 +5,3 @@ mod one_column_execution;
 mod one_column_tables;
 
 pub use one_column_execution::{OneColumnExecution, execute_one_column};
-
-#[cfg(test)]
-mod tests;

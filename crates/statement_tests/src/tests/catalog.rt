@@ -3,31 +3,24 @@
 ghost use Rattle.std.specs.Prelude.{◌≡◌, ◌∷◌, [], IfOk, codes};
 ghost use Rattle.descriptors.specs.Changes.{NewNamesAreUtf8};
 
-use crate::{Catalog, CatalogRefusal, new_names_are_utf8};
-use mr_base::{Bytes, CloneIn, ListOf, Memory, SqlState};
+use descriptors::{Catalog, CatalogRefusal, new_names_are_utf8};
+use mr_base::{Bytes, CloneIn, ListOf, Memory};
 use region_sql::{RegionStatement, Statement, parse_statement};
 use std::alloc::Global;
 use std::test::Fail;
+
+/// The codes of the rules of databases with regions.
+const RULES: [&str; 12] = [
+    "none", "D1", "D2", "D3", "D4", "D5", "D6", "D7", "D8", "D9", "none", "D11",
+];
 
 /// The code of an answer.
 fn code(answer: Result<(), CatalogRefusal>) -> &'static str {
     match answer {
         Ok(()) => "ok",
-        Err(CatalogRefusal::State(SqlState::S3D000)) => "3D000",
-        Err(CatalogRefusal::State(SqlState::S42P04)) => "42P04",
-        Err(CatalogRefusal::State(SqlState::S42P07)) => "42P07",
-        Err(CatalogRefusal::State(SqlState::S42P01)) => "42P01",
-        Err(CatalogRefusal::D(1)) => "D1",
-        Err(CatalogRefusal::D(2)) => "D2",
-        Err(CatalogRefusal::D(3)) => "D3",
-        Err(CatalogRefusal::D(4)) => "D4",
-        Err(CatalogRefusal::D(5)) => "D5",
-        Err(CatalogRefusal::D(6)) => "D6",
-        Err(CatalogRefusal::D(7)) => "D7",
-        Err(CatalogRefusal::D(8)) => "D8",
-        Err(CatalogRefusal::D(9)) => "D9",
-        Err(CatalogRefusal::D(11)) => "D11",
-        Err(_) => "other",
+        Err(CatalogRefusal::State(state)) => state.code(),
+        Err(CatalogRefusal::D(rule)) => RULES.get(usize::from(rule)).copied().unwrap_or("none"),
+        Err(CatalogRefusal::Memory) => "memory",
     }
 }
 
@@ -176,10 +169,17 @@ fn four_regions(alloc: Global) -> Result<Catalog, Memory> {
     Catalog::new(alloc, regions.as_slice())
 }
 
-/// Makes databases f0, f1 and so on, and says how many there are when there may be no more.
-fn fill_with_databases(alloc: Global, catalog: &mut Catalog) -> Result<u32, Fail> {
+/// A statement before its number and behind it.
+type Numbered = (&'static str, &'static str);
+
+const DATABASES: Numbered = ("CREATE DATABASE f", "");
+
+const TABLES: Numbered = ("CREATE TABLE t", " (id INT PRIMARY KEY)");
+
+/// Makes databases or tables, numbered from 0, and says how many there are when there may be no more.
+fn fill(alloc: Global, catalog: &mut Catalog, (before, behind): Numbered) -> Result<u32, Fail> {
     for made in 0..100 {
-        let text = format!(in alloc; "CREATE DATABASE f{made}")?;
+        let text = format!(in alloc; "{before}{made}{behind}")?;
         if answer(alloc, catalog, &text)? == "D8" {
             return Ok(made);
         }
@@ -187,21 +187,10 @@ fn fill_with_databases(alloc: Global, catalog: &mut Catalog) -> Result<u32, Fail
     Ok(100)
 }
 
-/// The same with tables of the current database.
-fn fill_with_tables(alloc: Global, catalog: &mut Catalog) -> Result<u32, Fail> {
-    for made in 0..100 {
-        let text = format!(in alloc; "CREATE TABLE t{made} (id INT PRIMARY KEY)")?;
-        if answer(alloc, catalog, &text)? == "D8" {
-            return Ok(made);
-        }
-    }
-    Ok(100)
-}
-
-/// The same with a copy of a catalog.
+/// Makes tables in a copy of a catalog.
 fn fill_a_copy(alloc: Global, catalog: &Catalog) -> Result<u32, Fail> {
     let mut copy = catalog.clone_in(alloc)?;
-    fill_with_tables(alloc, &mut copy)
+    fill(alloc, &mut copy, TABLES)
 }
 
 /// Whether one more table would be taken.
@@ -233,7 +222,7 @@ fn each_statement_gets_its_code(rt: HostRuntime) -> Result<(), Fail> {
 fn databases_are_16(rt: HostRuntime) -> Result<(), Fail> {
     let alloc = rt.alloc();
     let mut catalog = changed(alloc)?;
-    assert_eq!(rt; fill_with_databases(alloc, &mut catalog)?, 14);
+    assert_eq!(rt; fill(alloc, &mut catalog, DATABASES)?, 14);
     assert!(rt; first_wrong(alloc, &mut catalog, SIXTEEN_DATABASES)?.is_none());
     Ok(())
 }
@@ -242,7 +231,7 @@ fn databases_are_16(rt: HostRuntime) -> Result<(), Fail> {
 fn tables_are_64(rt: HostRuntime) -> Result<(), Fail> {
     let alloc = rt.alloc();
     let mut catalog = changed(alloc)?;
-    assert_eq!(rt; fill_with_tables(alloc, &mut catalog)?, 60);
+    assert_eq!(rt; fill(alloc, &mut catalog, TABLES)?, 60);
     assert!(rt; first_wrong(alloc, &mut catalog, SIXTY_FOUR_TABLES)?.is_none());
     Ok(())
 }

@@ -1,6 +1,6 @@
 //! Rows of one INT as their bytes stand, with ample memory.
 
-use super::*;
+use row_locality::{one_column_point, one_column_row, one_column_span};
 use std::test::Fail;
 
 /// An INT, its key and its value.

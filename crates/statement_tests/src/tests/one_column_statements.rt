@@ -1,8 +1,8 @@
 //! Statements one after the other on a plain table, with ample memory.
 
-use super::*;
 use mr_base::{Datum, ListOf, Row, SqlState};
 use region_sql::OneColumnStatement;
+use sql_eval::execute_one_column;
 use std::test::Fail;
 
 /// Whether the rows have these ids, in this order.

@@ -2,7 +2,7 @@ use Rattle.std.proofs.Common.{◌≡◌, ◌∷◌, [], List, ℕ, All, IsUtf8, 
 use Rattle.std.proofs.lemmas.List.Elements.{All-cons, All-nil}
 use Rattle.descriptors.specs.Sound.{AreDistinct, IsCluster}
 use Rattle.descriptors.proofs.Creations.{distinct_names}
-use Rattle.descriptors.proofs.tests.four_regions.Goals as goal
+use Rattle.statement_tests.proofs.tests.catalog.four_regions.Goals as goal
 
 east_text : IsUtf8 (codes "east")
 east_text = search rules
