@@ -83,6 +83,7 @@ impl Lines<'_> {
         self.put_ranges(out, database, table, number)
     }
 
+    /// Adds the lines of the ranges of a database's table: the number of the next range.
     fn put_ranges(
         &self,
         out: &mut Vec<u8>,
