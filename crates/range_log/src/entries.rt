@@ -1,11 +1,13 @@
 //! The entries of a range's log, and why a transaction is tried again.
 
+ghost use Rattle.std.specs.Prelude.{◌≡◌, IfOk};
+
 use mr_base::{AttemptId, Bytes, CloneIn, Fate, Memory, NodeId, RangeId, Ts};
 use std::alloc::Global;
 
 /// A lease: until the wall `expiration` (milliseconds) its holder, at this boot, serves the range.
 /// Nothing that was read below `low` is written any more.
-#[derive(Clone, Copy, Debug, PartialEq, Eq)]
+#[derive(Clone, Copy)]
 pub struct Lease {
     pub seq: u32,
     pub holder: NodeId,
@@ -15,7 +17,7 @@ pub struct Lease {
 }
 
 /// The state of an attempt, as its record says.
-#[derive(Clone, Copy, Debug, PartialEq, Eq)]
+#[derive(Clone, Copy)]
 pub enum TxnState {
     /// Undecided; where it commits, then above this timestamp.
     Pending(Ts),
@@ -25,7 +27,7 @@ pub enum TxnState {
 }
 
 /// An entry of a range's log.
-#[derive(Debug, PartialEq, Eq, Drop)]
+#[derive(Drop)]
 pub enum Entry {
     Lease(Lease),
     /// An intent of the attempt; without a value it deletes the key. `anchor` is the range of its record.
@@ -59,7 +61,7 @@ pub enum Entry {
 }
 
 /// Why a transaction reads again, later.
-#[derive(Debug, PartialEq, Eq, Drop)]
+#[derive(Drop)]
 pub enum RetryCause {
     /// A version within the uncertainty limit.
     Uncertain { key: Bytes, ts: Ts },
@@ -80,31 +82,59 @@ impl CloneIn for Entry {
                 ts,
                 key,
                 value,
-            } => Ok(Entry::Put {
-                attempt: *attempt,
-                start: *start,
-                anchor: *anchor,
-                ts: *ts,
-                key: key.clone_in(alloc)?,
-                value: value.clone_in(alloc)?,
-            }),
-            Entry::Resolve { attempt, key, fate } => Ok(Entry::Resolve {
-                attempt: *attempt,
-                key: key.clone_in(alloc)?,
-                fate: *fate,
-            }),
+            } => copy_of_put(alloc, *attempt, *start, *anchor, *ts, key, value),
+            Entry::Resolve { attempt, key, fate } => copy_of_resolve(alloc, *attempt, key, *fate),
             Entry::State { attempt, state } => Ok(Entry::State {
                 attempt: *attempt,
                 state: *state,
             }),
             Entry::Close(ts) => Ok(Entry::Close(*ts)),
-            Entry::Load { ts, key, value } => Ok(Entry::Load {
-                ts: *ts,
-                key: key.clone_in(alloc)?,
-                value: value.clone_in(alloc)?,
-            }),
+            Entry::Load { ts, key, value } => copy_of_load(alloc, *ts, key, value),
         }
     }
+}
+
+fn copy_of_put(
+    alloc: Global,
+    attempt: AttemptId,
+    start: Ts,
+    anchor: RangeId,
+    ts: Ts,
+    key: &Bytes,
+    value: &Option<Bytes>,
+) -> Result<Entry, Memory>
+    ensures { IfOk result (λ copy. copy ≡ Entry.Put attempt start anchor ts key.now value.now) }
+{
+    let key = key.clone_in(alloc)?;
+    let value = value.clone_in(alloc)?;
+    Ok(Entry::Put {
+        attempt,
+        start,
+        anchor,
+        ts,
+        key,
+        value,
+    })
+}
+
+fn copy_of_resolve(
+    alloc: Global,
+    attempt: AttemptId,
+    key: &Bytes,
+    fate: Fate,
+) -> Result<Entry, Memory>
+    ensures { IfOk result (λ copy. copy ≡ Entry.Resolve attempt key.now fate) }
+{
+    let key = key.clone_in(alloc)?;
+    Ok(Entry::Resolve { attempt, key, fate })
+}
+
+fn copy_of_load(alloc: Global, ts: Ts, key: &Bytes, value: &Bytes) -> Result<Entry, Memory>
+    ensures { IfOk result (λ copy. copy ≡ Entry.Load ts key.now value.now) }
+{
+    let key = key.clone_in(alloc)?;
+    let value = value.clone_in(alloc)?;
+    Ok(Entry::Load { ts, key, value })
 }
 
 impl CloneIn for RetryCause {
