@@ -9,7 +9,7 @@ use mr_base::Memory;
 use std::alloc::Global;
 
 /// What the program is asked to do.
-#[derive(Clone, Copy, Debug, PartialEq, Eq)]
+#[derive(Clone, Copy, PartialEq, Eq)]
 pub enum Command {
     /// Run a scenario; with `trace` the report shows every entry.
     Run { trace: bool },

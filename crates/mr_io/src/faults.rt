@@ -4,7 +4,7 @@ ghost use Rattle.std.specs.Prelude.{◌≡◌, ◌≤◌};
 ghost use Rattle.mr_io.specs.Faults.{next_count};
 
 /// A read or a write failed. Nothing was read or written, and the fault was counted.
-#[derive(Clone, Copy, Debug, PartialEq, Eq)]
+#[derive(Clone, Copy, PartialEq, Eq)]
 pub struct Failed;
 
 /// Counts one more fault, unless the counter stands at its last value.
