@@ -33,7 +33,7 @@ by_test : (b : Bool) → (b ≡ true) ⊎ (b ≡ false)
 by_test true = inl refl
 by_test false = inr refl
 
-later_when : (a b : Ts) → ((ts_lt a b ≡ true) × (later a b ≡ b)) ⊎ ((ts_lt a b ≡ false) × (later a b ≡ a))
+pub later_when : (a b : Ts) → ((ts_lt a b ≡ true) × (later a b ≡ b)) ⊎ ((ts_lt a b ≡ false) × (later a b ≡ a))
 later_when a b = when (ts_lt a b)
   where
     when : (t : Bool) → ((t ≡ true) × (cond t b a ≡ b)) ⊎ ((t ≡ false) × (cond t b a ≡ a))

@@ -1,7 +1,7 @@
 //! A bounded cache of the timestamps of reads.
 
-ghost use Rattle.std.specs.Prelude.{◌≡◌, ◌≤◌, ◌<◌, ◌+◌, ◌++◌, ◌∷◌, [], List, IsTrue, IfOk, OnOk, OnErr, length, vec_len, vec_capacity};
-ghost use Rattle.mr_base.specs.Timestamps.{IsBelow, later};
+ghost use Rattle.std.specs.Prelude.{◌≡◌, ◌≤◌, ◌<◌, ◌+◌, ◌++◌, ◌∷◌, [], List, IfOk, OnOk, OnErr, length, vec_len, vec_capacity};
+ghost use Rattle.mr_base.specs.Timestamps.{later};
 ghost use Rattle.ts_cache.specs.Cached.{added, high_of, top_of};
 ghost use Rattle.ts_cache.specs.Held.{AreApart};
 ghost use Rattle.ts_cache.specs.Indexed.{IsIndexed};
@@ -83,7 +83,9 @@ impl TsCache {
 
     /// The timestamp that counts for each key.
     pub fn low(&self) -> Ts
-        ensures { result ≡ self.now.low }
+        ensures low { result ≡ self.now.low }
+        ensures apart { AreApart self.now.held }
+        ensures within { length self.now.held ≤ self.now.capacity }
     {
         self.low
     }

@@ -4,7 +4,9 @@
 mod cache;
 mod held;
 mod index;
+mod laws;
 mod meeting;
 
 pub use cache::TsCache;
+pub use laws::{adding_keeps_bounds, adding_raises, answers_are_named, top_is_greatest};
 pub use meeting::spans_that_meet;

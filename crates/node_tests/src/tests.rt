@@ -1,0 +1,4 @@
+mod caches;
+mod clocks;
+mod flights;
+mod logs;
