@@ -1,5 +1,5 @@
 -- A token of one kind, which says no more.
-use Rattle.std.proofs.Common.{◌≡◌, ℕ, Bool, true, false, cond, ◌||◌, List, [], ◌∷◌, Option, Some, None, Result, Ok, Err, length, drop, nat_eq, refl, sym, ap}
+use Rattle.std.proofs.Common.{◌≡◌, ℕ, Bool, true, false, cond, ◌||◌, List, [], ◌∷◌, Some, None, Result, Ok, Err, length, drop, nat_eq, refl, sym, ap}
 use Rattle.region_sql.specs.declared.tokens.Token.{Token}
 use Rattle.region_sql.specs.Tokens.{kind_of}
 use Rattle.region_sql.specs.Grammar.{of_kind}
