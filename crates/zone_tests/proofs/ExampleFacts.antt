@@ -1,5 +1,5 @@
 -- The database and the table of the tests are sound.
-use Rattle.std.proofs.Common.{◌≡◌, ◌≢◌, ℕ, zero, suc, ◌<◌, List, [], ◌∷◌, Option, None, Some, codes, refl, sym, ◌∙◌, arith}
+use Rattle.std.proofs.Common.{◌≢◌, zero, suc, [], ◌∷◌, Option, None, Some, codes, refl, sym, ◌∙◌, arith}
 use Rattle.std.specs.Prelude.{All, AllPairs, IsUtf8}
 use Rattle.std.proofs.lemmas.List.Elements.{All-cons, All-nil}
 use Rattle.region_sql.specs.declared.region_statements.Locality.{Locality}

@@ -1,4 +1,4 @@
-use Rattle.std.specs.Prelude.{◌≡◌, ℕ, List, [], ◌∷◌, IfSome, Option, Some, None, true, codes}
+use Rattle.std.specs.Prelude.{◌≡◌, ℕ, List, [], ◌∷◌, Option, Some, None, true, codes}
 use Rattle.region_sql.specs.declared.region_statements.ColumnType.TheVariants.{Int}
 use Rattle.region_sql.specs.declared.region_statements.Goal.TheVariants.{Zone}
 use Rattle.region_sql.specs.declared.region_statements.Locality.{Locality}
