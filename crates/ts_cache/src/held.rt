@@ -31,5 +31,6 @@ pub fn renew(list: &mut Vec<HeldSpan>, s: &Span, ts: Ts) -> bool
 fn place_of(list: &[HeldSpan], s: &Span) -> Option<usize>
     ensures { result ≡ position (λ h. same_span h.span s.now) list.now }
 {
-    list.iter().position(|h| h.span.lo == s.lo && h.span.hi == s.hi)
+    list.iter()
+        .position(|h| h.span.lo == s.lo && h.span.hi == s.hi)
 }
