@@ -109,13 +109,13 @@ answer_kept low held s q ts new i a =
     let from_low : (t : Ts) → IsUpTo t new.low → IsUpTo t (high_of new q) = λ t l. up_to_trans t new.low (high_of new q) l (greatest_low (λ h. h.ts) new.low (filter (meeting q) new.held)) in
     greatest_least (λ h. h.ts) low (filter (meeting q) held) (high_of new q) (from_low low i.lower)
     (λ h k. let f = from_filter (meeting q) held h k in
-        elim (i.others h a f.0) as (λ _. IsUpTo h.ts (high_of new q)) [
-          | inl still ↦ greatest_each (λ x. x.ts) new.low (filter (meeting q) new.held) h (Has-filter (meeting q) new.held h still f.1)
-          | inr (inl l) ↦ from_low h.ts l
-          | inr (inr r) ↦
-              let there : meets s q ≡ true = subst (λ (x : Span). meets x q ≡ true) r.0 f.1 in
-              up_to_trans h.ts r.1 (high_of new q) r.3 (greatest_each (λ x. x.ts) new.low (filter (meeting q) new.held) (held_at s r.1) (Has-filter (meeting q) new.held (held_at s r.1) r.2 there))
-        ])
+    elim (i.others h a f.0) as (λ _. IsUpTo h.ts (high_of new q)) [
+      | inl still ↦ greatest_each (λ x. x.ts) new.low (filter (meeting q) new.held) h (Has-filter (meeting q) new.held h still f.1)
+      | inr (inl l) ↦ from_low h.ts l
+      | inr (inr r) ↦
+          let there : meets s q ≡ true = subst (λ (x : Span). meets x q ≡ true) r.0 f.1 in
+          up_to_trans h.ts r.1 (high_of new q) r.3 (greatest_each (λ x. x.ts) new.low (filter (meeting q) new.held) (held_at s r.1) (Has-filter (meeting q) new.held (held_at s r.1) r.2 there))
+    ])
 
 pub lowers_nothing : (c : CacheValue) (s q : Span) (ts : Ts) → AreApart c.held → ¬ IsBelow (high_of (added c s ts) q) (high_of c q)
 lowers_nothing c s q ts a = up_to_not_below (high_of c q) (high_of (added c s ts) q) (answer_kept c.low c.held s q ts (added c s ts) (is_added c.low c.held c.capacity s ts) a)
