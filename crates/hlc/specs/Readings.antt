@@ -25,4 +25,6 @@ reading_of physical kept = if nat_lt kept.wall physical then record { wall = phy
 -- The next reading: the physical part where that is ahead of what is kept, else the next logical part.
 abbrev pub next_of : ℕ → Reading → Reading
 next_of physical kept =
-    if nat_lt kept.wall physical then record { wall = physical; logical = 0 } else record { wall = kept.wall; logical = kept.logical + 1 }
+    if nat_lt kept.wall physical
+    then record { wall = physical; logical = 0 }
+    else record { wall = kept.wall; logical = kept.logical + 1 }

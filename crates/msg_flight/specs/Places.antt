@@ -25,10 +25,12 @@ IsFiled places e = option_map (λ m. m.id.0) (message_at places e.1) ≡ Some e.
 abbrev pub AreFree : List (Option Message) → List ℕ → Type 0
 AreFree places [] = ⊤
 AreFree places (place ∷ rest) =
-    (place < length places) × (message_at places place ≡ None) × AllByRecursion (λ q. q ≢ place) rest × AreFree places rest
+    (place < length places) × (message_at places place ≡ None) × AllByRecursion (λ q. q ≢ place) rest
+    × AreFree places rest
 
 -- the numbers of the table rise, and each place is filed in it or free, and there is room to note each of them as free
-pub record IsSound (places : List (Option Message)) (free : List ℕ) (room : ℕ) (table : List (ℕ × ℕ)) : Type 0 where
+pub record IsSound (places : List (Option Message)) (free : List ℕ) (room : ℕ) (table : List (ℕ × ℕ))
+    : Type 0 where
   pub sorted : IsStrictlySortedBy nat_cmp (keys_of table)
   pub filed : AllByRecursion (IsFiled places) table
   pub free_places : AreFree places free

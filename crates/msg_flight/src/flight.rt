@@ -26,7 +26,10 @@ impl Model for Flight {
 
     ghost use Rattle.msg_flight.specs.Places.{IsSound, messages_of};
 
-    ghost view = { λ f. record { messages = messages_of f.places.items f.table.entries; places = length f.places.items } };
+    ghost view = { λ f. record {
+      messages = messages_of f.places.items f.table.entries;
+      places = length f.places.items;
+    } };
 
     ghost invariant = { λ f. IsSound f.places.items f.free.items (vec_capacity f.free) f.table.entries };
 }

@@ -38,7 +38,11 @@ impl Model for RangeLog {
 
     ghost use Rattle.range_log.specs.Kept.{IsKept};
 
-    ghost view = { λ l. record { voters = l.voters; entries = reverse l.entries.items; room = vec_capacity l.entries - vec_len l.entries } };
+    ghost view = { λ l. record {
+      voters = l.voters;
+      entries = reverse l.entries.items;
+      room = vec_capacity l.entries - vec_len l.entries;
+    } };
 
     ghost invariant = { λ l. IsKept (reverse l.entries.items) l.lease l.closed };
 }
@@ -75,7 +79,8 @@ impl RangeLog {
     pub fn append(&mut self, e: Entry, seq: u32, running: NodeSet) -> Result<u64, AppendRefusal>
         requires room { 0 < self.old.room }
         ensures answer { result ≡ append_answer self.old seq running }
-        ensures appended { OnOk result (self.new ≡ record self.old { entries = e ∷ self.old.entries; room = self.old.room - 1 }) }
+        ensures appended { OnOk result
+            (self.new ≡ record self.old { entries = e ∷ self.old.entries; room = self.old.room - 1 }) }
         ensures refused { OnErr result (self.new ≡ self.old) }
     {
         if seq != self.lease.seq {

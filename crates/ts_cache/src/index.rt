@@ -44,7 +44,8 @@ impl Index {
         requires { AreApart self.old.wide.items }
         ensures { (held : List HeldSpan) (had : Ts) → ts_of s.now held ≡ Some had
             → IsIndexed self.old.points.entries self.old.wide.items held
-            → IsIndexed self.new.points.entries self.new.wide.items (without s.now held ++ held_at s.now (later had ts) ∷ []) }
+            → IsIndexed self.new.points.entries self.new.wide.items
+            (without s.now held ++ held_at s.now (later had ts) ∷ []) }
     {
         if is_point(s) {
             raise(&mut self.points, &s.lo, ts);
@@ -111,7 +112,9 @@ fn latest_meeting(spans: &[HeldSpan], s: &Span, low: Ts) -> Ts
 /// Raises the timestamp of a key where the new one is higher.
 fn raise(points: &mut BTreeMap<Bytes, Ts>, key: &Bytes, ts: Ts)
     ensures { (q : List ℕ) → key_ts q points.new.entries
-        ≡ (if is_eq (slice_cmp nat_cmp key.now q) then option_map (λ had. later had ts) (key_ts q points.old.entries) else key_ts q points.old.entries) }
+        ≡ (if is_eq (slice_cmp nat_cmp key.now q)
+        then option_map (λ had. later had ts) (key_ts q points.old.entries)
+        else key_ts q points.old.entries) }
 {
     if let Some(had) = points.get_mut(key) {
         *had = had.later(ts);
