@@ -7,7 +7,7 @@ use mr_base::Reading;
 
 /// A hybrid logical clock: the physical part in milliseconds, and the greatest reading that it gave.
 /// Source: Taft et al., SIGMOD 2020.
-#[derive(Clone, Copy, Debug, PartialEq, Eq)]
+#[derive(Clone, Copy)]
 pub struct Clock {
     pub physical: u64,
     pub kept: Reading,

@@ -9,7 +9,7 @@ use closed_ts::by_lease;
 use region_sql::OneColumnStatement;
 
 /// How a transaction goes on the one node, which is known once it began.
-#[derive(Clone, Copy, Debug, PartialEq, Eq)]
+#[derive(Clone, Copy)]
 pub enum Course {
     /// The node may not serve.
     Unserved,

@@ -11,6 +11,3 @@ mod transaction;
 
 pub use cluster::Cluster;
 pub use laying::{has_passed, laid_at};
-
-#[cfg(test)]
-mod tests;

@@ -1,10 +1,10 @@
-//! The journal of the first path beside its lines written out by hand, and answers beside those of the plain
-//! program.
+//! The journal of a cluster of one node beside its lines written out by hand, and its answers beside those of the
+//! plain program.
 
-use super::*;
-use journal::{Event, JournalEntry, StatementResult, Verb, standard_settings};
+use journal::{Event, JournalEntry, standard_settings};
 use journal_text::{Mode, text_of};
-use mr_base::{Bytes, Kind, ListOf, NodeId, SqlState, TxnId};
+use mr_base::{Bytes, Kind, ListOf, NodeId, RowList, SqlState, StatementResult, TxnId, Verb};
+use one_node::Cluster;
 use region_sql::{OneColumnStatement, one_column_statement};
 use sql_eval::{OneColumnExecution, execute_one_column};
 use std::alloc::Global;
@@ -42,6 +42,13 @@ serve a3 n1 r1 [008000000000000001,00800000000000000100) at 1000.2.3 limit 1500 
 fault t3 1000.2.3 23505
 ";
 
+/// A cluster that has begun, whose node's clock stands at 1000.
+fn begun(alloc: Global) -> Result<Cluster, Fail> {
+    let mut cluster = Cluster::new(alloc, standard_settings(), 1000);
+    cluster.step(5, &Event::Begin)?;
+    Ok(cluster)
+}
+
 /// Runs a transaction of this text, where the cluster has begun.
 fn run(alloc: Global, cluster: &mut Cluster, k: u32, list: &[u8]) -> Result<(), Fail> {
     if cluster.journal().is_empty() || one_column_statement(list).is_none() {
@@ -57,23 +64,32 @@ fn run(alloc: Global, cluster: &mut Cluster, k: u32, list: &[u8]) -> Result<(), 
     Ok(())
 }
 
-#[test]
-fn the_first_journal_is_the_one_written_by_hand(rt: HostRuntime) -> Result<(), Fail> {
-    let alloc = rt.alloc();
-    let mut cluster = Cluster::new(alloc, standard_settings(), 1000);
-    cluster.step(5, &Event::Begin)?;
-    for (k, list) in (0..).zip(LISTS) {
-        run(alloc, &mut cluster, k, list)?;
-    }
+fn names(alloc: Global) -> Result<Vec<Bytes>, Fail> {
     let mut names = Vec::new(alloc);
     for name in NAMES {
         names.push(Bytes::from_slice(alloc, name)?)?;
     }
+    Ok(names)
+}
+
+fn trace_of(alloc: Global, journal: &[JournalEntry]) -> Result<Vec<u8>, Fail> {
+    let names = names(alloc)?;
     let mut trace = Vec::new(alloc);
-    for entry in cluster.journal() {
+    for entry in journal {
         let text = text_of(alloc, names.as_slice(), entry, Mode::Trace)?;
         trace.extend_from_slice(text.as_slice())?;
     }
+    Ok(trace)
+}
+
+#[test]
+fn the_first_journal_is_the_one_written_by_hand(rt: HostRuntime) -> Result<(), Fail> {
+    let alloc = rt.alloc();
+    let mut cluster = begun(alloc)?;
+    for (k, list) in (0..).zip(LISTS) {
+        run(alloc, &mut cluster, k, list)?;
+    }
+    let trace = trace_of(alloc, cluster.journal())?;
     assert!(rt; trace.as_slice() == TRACE);
     assert!(rt; cluster.journal().len() == 17);
     Ok(())
@@ -85,6 +101,13 @@ fn statement(k: u32) -> OneColumnStatement {
         OneColumnStatement::SelectAll
     } else {
         OneColumnStatement::Insert(i64::from(k.wrapping_mul(k) % 89))
+    }
+}
+
+fn statement_text(alloc: Global, statement: OneColumnStatement) -> Result<String, Fail> {
+    match statement {
+        OneColumnStatement::Insert(n) => Ok(format!(in alloc; "INSERT INTO t (id) VALUES ({n})")?),
+        OneColumnStatement::SelectAll => Ok(String::from_str(alloc, "SELECT * FROM t")?),
     }
 }
 
@@ -103,44 +126,51 @@ fn is_result(results: &[StatementResult], verb: Verb, plain: &OneColumnExecution
     }
 }
 
-/// Whether an entry gives the answer of the plain program.
-fn is_answer(
-    entry: &JournalEntry,
-    verb: Verb,
-    plain: &Result<OneColumnExecution, SqlState>,
-) -> bool {
-    match plain {
-        Ok(plain) => match entry {
-            JournalEntry::Ack { results, .. } => is_result(results.as_slice(), verb, plain),
-            _ => false,
-        },
-        Err(fault) => match entry {
-            JournalEntry::Fault { state, .. } => state == fault,
-            _ => false,
-        },
+fn is_acknowledged(entry: &JournalEntry, verb: Verb, plain: &OneColumnExecution) -> bool {
+    match entry {
+        JournalEntry::Ack { results, .. } => is_result(results.as_slice(), verb, plain),
+        _ => false,
+    }
+}
+
+fn is_fault(entry: &JournalEntry, fault: SqlState) -> bool {
+    match entry {
+        JournalEntry::Fault { state, .. } => *state == fault,
+        _ => false,
+    }
+}
+
+/// Runs the statement of this number on the cluster and on the table of the plain program. The table changes as
+/// the plain program says. Whether the statement has a fault there.
+fn run_beside(
+    alloc: Global,
+    cluster: &mut Cluster,
+    table: &mut RowList,
+    k: u32,
+) -> Result<bool, Fail> {
+    let statement = statement(k);
+    let text = statement_text(alloc, statement)?;
+    run(alloc, cluster, k, text.as_bytes())?;
+    let last = cluster.journal().last().ok_or("no entry")?;
+    match execute_one_column(alloc, statement, table.as_slice())? {
+        Ok(plain) if is_acknowledged(last, verb_of(statement), &plain) => {
+            *table = plain.after;
+            Ok(false)
+        }
+        Err(fault) if is_fault(last, fault) => Ok(true),
+        _ => Err(Fail::from("another answer than the plain program's")),
     }
 }
 
 #[test]
 fn answers_are_those_of_a_serial_run_on_one_site(rt: HostRuntime) -> Result<(), Fail> {
     let alloc = rt.alloc();
-    let mut cluster = Cluster::new(alloc, standard_settings(), 1000);
-    cluster.step(5, &Event::Begin)?;
+    let mut cluster = begun(alloc)?;
     let mut table = ListOf::new(alloc);
     let mut duplicates: u32 = 0;
     for k in 0..200 {
-        let statement = statement(k);
-        let text = match statement {
-            OneColumnStatement::Insert(n) => format!(in alloc; "INSERT INTO t (id) VALUES ({n})")?,
-            OneColumnStatement::SelectAll => format!(in alloc; "SELECT * FROM t")?,
-        };
-        run(alloc, &mut cluster, k, text.as_bytes())?;
-        let plain = execute_one_column(alloc, statement, table.as_slice())?;
-        let last = cluster.journal().last().ok_or("no entry")?;
-        assert!(rt; is_answer(last, verb_of(statement), &plain));
-        match plain {
-            Ok(plain) => table = plain.after,
-            Err(_) => duplicates = duplicates.saturating_add(1),
+        if run_beside(alloc, &mut cluster, &mut table, k)? {
+            duplicates = duplicates.saturating_add(1);
         }
     }
     assert!(rt; duplicates > 50 && table.as_slice().len() > 30);
