@@ -17,7 +17,7 @@ pub struct Outcome {
 }
 
 /// Why a run ends.
-#[derive(Clone, Copy, Debug, PartialEq, Eq)]
+#[derive(Clone, Copy)]
 pub enum End {
     /// The source was read to its end and every line was run.
     Whole,
