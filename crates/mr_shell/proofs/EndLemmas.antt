@@ -10,6 +10,7 @@ use Rattle.mr_shell.specs.Session.{Stops}
 use Rattle.mr_shell.specs.Texts.{Report, Says, Wrote, last_line}
 use Rattle.mr_shell.specs.declared.outcome.End.{End}
 use Rattle.mr_shell.specs.declared.outcome.End.TheVariants as ends
+use Rattle.mr_shell.proofs.Statuses.{fault_at, memory_at, read_at, size_at, whole_at, write_at}
 use Rattle.mr_shell.proofs.StopLemmas.{first_shorter}
 use Rattle.mr_shell.proofs.RunLemmas.{wrote-more, wrote-same}
 
@@ -56,55 +57,22 @@ ended ends.Usage result taken left report mid journal written is h s = absurd is
 
 -- what each status says
 pub at_whole : (end : End) (taken : List ℕ) (left : Option (List ℕ)) (report : Report) (journal : List JournalEntry) (written : Option (List ℕ)) → status_of end ≡ 0 → HasEnded end taken left report journal written → EndsWith ends.Whole taken left report journal written
-at_whole ends.Whole taken left report journal written is h = h
-at_whole (ends.Fault fault number) taken left report journal written is h = cc
-at_whole ends.Usage taken left report journal written is h = cc
-at_whole ends.Read taken left report journal written is h = cc
-at_whole ends.Write taken left report journal written is h = cc
-at_whole ends.Memory taken left report journal written is h = cc
-at_whole ends.Size taken left report journal written is h = cc
+at_whole end taken left report journal written is h = subst (λ (e : End). HasEnded e taken left report journal written) (whole_at end is) h
 
 pub at_fault : (end : End) (taken : List ℕ) (left : Option (List ℕ)) (report : Report) (journal : List JournalEntry) (written : Option (List ℕ)) → status_of end ≡ 1 → HasEnded end taken left report journal written → (number : ℕ) × EndsWith (ends.Fault 1 number) taken left report journal written
-at_fault ends.Whole taken left report journal written is h = cc
-at_fault (ends.Fault fault number) taken left report journal written is h = (number, subst (λ (k : ℕ). EndsWith (ends.Fault k number) taken left report journal written) h.2.2.0 h)
-at_fault ends.Usage taken left report journal written is h = cc
-at_fault ends.Read taken left report journal written is h = cc
-at_fault ends.Write taken left report journal written is h = cc
-at_fault ends.Memory taken left report journal written is h = cc
-at_fault ends.Size taken left report journal written is h = cc
+at_fault end taken left report journal written is h =
+    let f = fault_at end is in
+    let so = subst (λ (e : End). HasEnded e taken left report journal written) f.2 h in
+    (f.1, subst (λ (k : ℕ). EndsWith (ends.Fault k f.1) taken left report journal written) so.2.2.0 so)
 
 pub at_read : (end : End) (taken : List ℕ) (left : Option (List ℕ)) (report : Report) (journal : List JournalEntry) (written : Option (List ℕ)) → status_of end ≡ 3 → HasEnded end taken left report journal written → EndsWith ends.Read taken left report journal written
-at_read ends.Whole taken left report journal written is h = cc
-at_read (ends.Fault fault number) taken left report journal written is h = cc
-at_read ends.Usage taken left report journal written is h = cc
-at_read ends.Read taken left report journal written is h = h
-at_read ends.Write taken left report journal written is h = cc
-at_read ends.Memory taken left report journal written is h = cc
-at_read ends.Size taken left report journal written is h = cc
+at_read end taken left report journal written is h = subst (λ (e : End). HasEnded e taken left report journal written) (read_at end is) h
 
 pub at_write : (end : End) (taken : List ℕ) (left : Option (List ℕ)) (report : Report) (journal : List JournalEntry) (written : Option (List ℕ)) → status_of end ≡ 4 → HasEnded end taken left report journal written → HasEnded ends.Write taken left report journal written
-at_write ends.Whole taken left report journal written is h = cc
-at_write (ends.Fault fault number) taken left report journal written is h = cc
-at_write ends.Usage taken left report journal written is h = cc
-at_write ends.Read taken left report journal written is h = cc
-at_write ends.Write taken left report journal written is h = h
-at_write ends.Memory taken left report journal written is h = cc
-at_write ends.Size taken left report journal written is h = cc
+at_write end taken left report journal written is h = subst (λ (e : End). HasEnded e taken left report journal written) (write_at end is) h
 
 pub at_memory : (end : End) (taken : List ℕ) (left : Option (List ℕ)) (report : Report) (journal : List JournalEntry) (written : Option (List ℕ)) → status_of end ≡ 5 → HasEnded end taken left report journal written → EndsShort taken left report journal written
-at_memory ends.Whole taken left report journal written is h = cc
-at_memory (ends.Fault fault number) taken left report journal written is h = cc
-at_memory ends.Usage taken left report journal written is h = cc
-at_memory ends.Read taken left report journal written is h = cc
-at_memory ends.Write taken left report journal written is h = cc
-at_memory ends.Memory taken left report journal written is h = h
-at_memory ends.Size taken left report journal written is h = cc
+at_memory end taken left report journal written is h = subst (λ (e : End). HasEnded e taken left report journal written) (memory_at end is) h
 
 pub at_size : (end : End) (taken : List ℕ) (left : Option (List ℕ)) (report : Report) (journal : List JournalEntry) (written : Option (List ℕ)) → status_of end ≡ 7 → HasEnded end taken left report journal written → EndsWith ends.Size taken left report journal written
-at_size ends.Whole taken left report journal written is h = cc
-at_size (ends.Fault fault number) taken left report journal written is h = cc
-at_size ends.Usage taken left report journal written is h = cc
-at_size ends.Read taken left report journal written is h = cc
-at_size ends.Write taken left report journal written is h = cc
-at_size ends.Memory taken left report journal written is h = cc
-at_size ends.Size taken left report journal written is h = h
+at_size end taken left report journal written is h = subst (λ (e : End). HasEnded e taken left report journal written) (size_at end is) h

@@ -10,6 +10,7 @@ pub mod OneStory
 pub mod RunLemmas
 pub mod RunLines
 pub mod SessionStops
+pub mod Statuses
 pub mod StopLemmas
 pub mod TextLemmas
 pub mod ZoneExact

@@ -12,6 +12,7 @@ use Rattle.mr_shell.specs.declared.outcome.End.{End}
 use Rattle.mr_shell.specs.declared.outcome.End.TheVariants as ends
 use Rattle.mr_shell.specs.declared.zones_session.ZonesSession.{ZonesSession}
 use Rattle.mr_shell.proofs.RunLemmas.{wrote-more, wrote-same}
+use Rattle.mr_shell.proofs.Statuses.{fault_at, memory_at, read_at, size_at, whole_at, write_at}
 use Rattle.mr_shell.proofs.StopLemmas.{first_shorter}
 
 abbrev ZonesStop : (start : Option (List ℕ)) → End → (taken : List ℕ) → (left : Option (List ℕ)) → ZonesSession → (written : Option (List ℕ)) → Type 0
@@ -76,55 +77,21 @@ ended format ends.Usage result taken left start mid written session is h s = abs
 
 -- what each status says
 pub zones_whole : (format : Format) (end : End) (taken : List ℕ) (left start written : Option (List ℕ)) → status_of end ≡ 0 → ZonesHaveEnded format end taken left start written → ZonesEnd format ends.Whole taken left start written
-zones_whole format ends.Whole taken left start written is h = h
-zones_whole format (ends.Fault fault number) taken left start written is h = cc
-zones_whole format ends.Usage taken left start written is h = cc
-zones_whole format ends.Read taken left start written is h = cc
-zones_whole format ends.Write taken left start written is h = cc
-zones_whole format ends.Memory taken left start written is h = cc
-zones_whole format ends.Size taken left start written is h = cc
+zones_whole format end taken left start written is h = subst (λ (e : End). ZonesHaveEnded format e taken left start written) (whole_at end is) h
 
 pub zones_fault : (format : Format) (end : End) (taken : List ℕ) (left start written : Option (List ℕ)) → status_of end ≡ 1 → ZonesHaveEnded format end taken left start written → (fault number : ℕ) × ZonesEnd format (ends.Fault fault number) taken left start written
-zones_fault format ends.Whole taken left start written is h = cc
-zones_fault format (ends.Fault fault number) taken left start written is h = (fault, number, h)
-zones_fault format ends.Usage taken left start written is h = cc
-zones_fault format ends.Read taken left start written is h = cc
-zones_fault format ends.Write taken left start written is h = cc
-zones_fault format ends.Memory taken left start written is h = cc
-zones_fault format ends.Size taken left start written is h = cc
+zones_fault format end taken left start written is h =
+    let f = fault_at end is in
+    (f.0, f.1, subst (λ (e : End). ZonesHaveEnded format e taken left start written) f.2 h)
 
 pub zones_read : (format : Format) (end : End) (taken : List ℕ) (left start written : Option (List ℕ)) → status_of end ≡ 3 → ZonesHaveEnded format end taken left start written → ZonesEnd format ends.Read taken left start written
-zones_read format ends.Whole taken left start written is h = cc
-zones_read format (ends.Fault fault number) taken left start written is h = cc
-zones_read format ends.Usage taken left start written is h = cc
-zones_read format ends.Read taken left start written is h = h
-zones_read format ends.Write taken left start written is h = cc
-zones_read format ends.Memory taken left start written is h = cc
-zones_read format ends.Size taken left start written is h = cc
+zones_read format end taken left start written is h = subst (λ (e : End). ZonesHaveEnded format e taken left start written) (read_at end is) h
 
 pub zones_write : (format : Format) (end : End) (taken : List ℕ) (left start written : Option (List ℕ)) → status_of end ≡ 4 → ZonesHaveEnded format end taken left start written → ZonesHaveEnded format ends.Write taken left start written
-zones_write format ends.Whole taken left start written is h = cc
-zones_write format (ends.Fault fault number) taken left start written is h = cc
-zones_write format ends.Usage taken left start written is h = cc
-zones_write format ends.Read taken left start written is h = cc
-zones_write format ends.Write taken left start written is h = h
-zones_write format ends.Memory taken left start written is h = cc
-zones_write format ends.Size taken left start written is h = cc
+zones_write format end taken left start written is h = subst (λ (e : End). ZonesHaveEnded format e taken left start written) (write_at end is) h
 
 pub zones_memory : (format : Format) (end : End) (taken : List ℕ) (left start written : Option (List ℕ)) → status_of end ≡ 5 → ZonesHaveEnded format end taken left start written → ZonesEndShort taken left start written
-zones_memory format ends.Whole taken left start written is h = cc
-zones_memory format (ends.Fault fault number) taken left start written is h = cc
-zones_memory format ends.Usage taken left start written is h = cc
-zones_memory format ends.Read taken left start written is h = cc
-zones_memory format ends.Write taken left start written is h = cc
-zones_memory format ends.Memory taken left start written is h = h
-zones_memory format ends.Size taken left start written is h = cc
+zones_memory format end taken left start written is h = subst (λ (e : End). ZonesHaveEnded format e taken left start written) (memory_at end is) h
 
 pub zones_size : (format : Format) (end : End) (taken : List ℕ) (left start written : Option (List ℕ)) → status_of end ≡ 7 → ZonesHaveEnded format end taken left start written → ZonesEnd format ends.Size taken left start written
-zones_size format ends.Whole taken left start written is h = cc
-zones_size format (ends.Fault fault number) taken left start written is h = cc
-zones_size format ends.Usage taken left start written is h = cc
-zones_size format ends.Read taken left start written is h = cc
-zones_size format ends.Write taken left start written is h = cc
-zones_size format ends.Memory taken left start written is h = cc
-zones_size format ends.Size taken left start written is h = h
+zones_size format end taken left start written is h = subst (λ (e : End). ZonesHaveEnded format e taken left start written) (size_at end is) h
