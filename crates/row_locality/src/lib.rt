@@ -1,6 +1,11 @@
 //! Rows as pairs of key and value, and the spans that hold them.
 #![tactic(auto)]
 
+mod key_laws;
 mod one_column_rows;
 
+pub use key_laws::{
+    all_rows_are_the_primary_keys, equal_keys_have_equal_values, keys_order_as_values,
+    no_key_begins_another, point_holds_one_key,
+};
 pub use one_column_rows::{one_column_point, one_column_row, one_column_span, one_column_value};
