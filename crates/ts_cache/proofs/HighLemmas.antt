@@ -1,5 +1,5 @@
 -- The greatest timestamp of the spans that meet one, read off the index.
-use Rattle.std.proofs.Common.{◌≡◌, ◌⊎◌, ◌&&◌, ℕ, Bool, true, false, cond, not, List, [], ◌∷◌, Some, filter, inl, inr, refl, subst, sym, ap, ◌∙◌}
+use Rattle.std.proofs.Common.{◌≡◌, ◌&&◌, ℕ, Bool, true, false, cond, not, List, [], ◌∷◌, Some, filter, inl, inr, refl, subst, sym, ap, ◌∙◌}
 use Rattle.std.proofs.lemmas.Cmp.{nat_list_cmp_total, tied_itself}
 use Rattle.std.proofs.lemmas.Map.Keys.{sorted_head, sorted_tail}
 use Rattle.std.proofs.lemmas.Map.Views.{IsInRange-from_range_contains, range_contains-from_IsInRange}
@@ -18,7 +18,7 @@ use Rattle.ts_cache.proofs.HeldLemmas.{Has-ts_of, ts_of-Has}
 use Rattle.ts_cache.proofs.IndexLemmas.{is_wide}
 use Rattle.ts_cache.proofs.KeyLemmas.{gt_not, in_point, is_point_of, key_or_not, less_is, lt_below, not_below, not_gt, not_lt, point_in}
 use Rattle.ts_cache.proofs.Order.{Has, IsUpTo, greatest_by, greatest_each, greatest_least, greatest_low, up_to_antisymm, up_to_trans}
-use Rattle.ts_cache.specs.Held.{greatest, held_at, ts_of}
+use Rattle.ts_cache.specs.Held.{held_at, ts_of}
 use Rattle.ts_cache.specs.Indexed.{IsIndexed, key_ts}
 use Rattle.ts_cache.specs.Meeting.{is_point, key_lt, meets, point_of}
 use Rattle.ts_cache.specs.declared.held.HeldSpan.{HeldSpan}

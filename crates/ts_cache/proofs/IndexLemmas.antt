@@ -1,5 +1,5 @@
 -- The index of the spans held, as they change.
-use Rattle.std.proofs.Common.{◌≡◌, ◌≢◌, ◌⊎◌, ℕ, Bool, true, false, cond, not, List, [], ◌∷◌, ◌++◌, Option, Some, None, filter, remove, drop, inl, inr, refl, subst, sym, ap, ◌∙◌}
+use Rattle.std.proofs.Common.{◌≡◌, ◌≢◌, ◌⊎◌, ℕ, Bool, true, false, cond, not, List, [], ◌∷◌, ◌++◌, Some, None, filter, remove, inl, inr, refl, subst, sym, ap, ◌∙◌}
 use Rattle.std.proofs.lemmas.List.{append-nil}
 use Rattle.std.proofs.lemmas.List.Elements.{filter-append}
 use Rattle.std.specs.Cmp.Lexicographic.{slice_cmp}
@@ -9,8 +9,8 @@ use Rattle.mr_base.specs.Timestamps.{later}
 use Rattle.mr_base.specs.declared.spans.Span.{Span}
 use Rattle.mr_base.specs.declared.timestamps.Ts.{Ts}
 use Rattle.ts_cache.proofs.HeldLemmas.{AreApart-last, AreApart-renewed, same_or_not, ts_of-last, ts_of-renewed}
-use Rattle.ts_cache.proofs.KeyLemmas.{is_point_of, key_or_not, point_is_point, same_points, wide_apart}
-use Rattle.ts_cache.specs.Held.{AreApart, held_at, same_span, ts_of, without}
+use Rattle.ts_cache.proofs.KeyLemmas.{is_point_of, key_or_not, same_points, wide_apart}
+use Rattle.ts_cache.specs.Held.{held_at, same_span, ts_of, without}
 use Rattle.ts_cache.specs.Indexed.{IsIndexed, key_ts}
 use Rattle.ts_cache.specs.Meeting.{is_point, point_of}
 use Rattle.ts_cache.specs.declared.held.HeldSpan.{HeldSpan}

@@ -1,5 +1,5 @@
 -- The order of timestamps, and the greatest of several.
-use Rattle.std.proofs.Common.{◌≡◌, ℕ, ◌<◌, ◌≤◌, ◌⊎◌, Bool, true, false, cond, List, [], ◌∷◌, fold, inl, inr, arith, refl, subst, sym}
+use Rattle.std.proofs.Common.{◌≡◌, ◌<◌, ◌≤◌, ◌⊎◌, Bool, true, false, cond, List, [], ◌∷◌, fold, inl, inr, arith, refl}
 use Rattle.std.proofs.lemmas.Bool.Decides.{nat_tests}
 use Rattle.mr_base.specs.Timestamps.{IsBelow, later, ts_lt}
 use Rattle.mr_base.specs.declared.timestamps.Ts.{Ts}

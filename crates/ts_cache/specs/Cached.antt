@@ -1,5 +1,5 @@
-use Rattle.std.specs.Prelude.{◌≡◌, ◌≤◌, ◌++◌, List, [], ◌∷◌, Option, Some, None, IsTrue, filter, if◌then◌else◌, length, nat_lt}
-use Rattle.mr_base.specs.Timestamps.{IsBelow, later}
+use Rattle.std.specs.Prelude.{◌++◌, List, [], ◌∷◌, Option, Some, None, filter, if◌then◌else◌, length, nat_lt}
+use Rattle.mr_base.specs.Timestamps.{later}
 use Rattle.mr_base.specs.declared.spans.Span.{Span}
 use Rattle.mr_base.specs.declared.timestamps.Ts.{Ts}
 use Rattle.ts_cache.specs.Held.{greatest, held_at, ts_of, without}

@@ -1,4 +1,4 @@
-use Rattle.std.specs.Prelude.{◌≡◌, ◌&&◌, ℕ, Bool, List, [], ◌∷◌, Option, Some, None, ⊤, ◌++◌, MatchOption, false, true, if◌then◌else◌, filter, fold, nat_eq, not}
+use Rattle.std.specs.Prelude.{◌≡◌, ◌&&◌, Bool, List, [], ◌∷◌, Option, Some, None, ⊤, ◌++◌, MatchOption, false, true, if◌then◌else◌, filter, fold, nat_eq, not}
 use Rattle.std.specs.Cmp.Lexicographic.{pointwise}
 use Rattle.mr_base.specs.Timestamps.{later}
 use Rattle.mr_base.specs.declared.spans.Span.{Span}

@@ -1,5 +1,5 @@
-use Rattle.std.proofs.Common.{arith, refl, sym, ◌∙◌}
-use Rattle.ts_cache.proofs.RenewLemmas.{found_there, found_within, none_held}
+use Rattle.std.proofs.Common.{refl, sym, ◌∙◌}
+use Rattle.ts_cache.proofs.RenewLemmas.{found_there, none_held}
 use Rattle.ts_cache.proofs.held.renew.Goals as goal
 
 pub returns-in_default : goal.returns-in_default

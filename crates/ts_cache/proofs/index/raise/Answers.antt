@@ -1,4 +1,4 @@
-use Rattle.std.proofs.Common.{IsSome, Some, ap, cond, refl, ◌∙◌}
+use Rattle.std.proofs.Common.{Some, ap, cond, refl, ◌∙◌}
 use Rattle.std.specs.Cmp.Lexicographic.{slice_cmp}
 use Rattle.std.specs.Ordering.{is_eq, nat_cmp}
 use Rattle.ts_cache.proofs.IndexLemmas.{raised, unraised}

@@ -1,9 +1,8 @@
-use Rattle.std.proofs.Common.{◌≡◌, ◌≤◌, ◌<◌, ◌++◌, ◌∷◌, [], List, None, ap, arith, length, sym, ◌∙◌}
-use Rattle.ts_cache.proofs.CacheLemmas.{added_again, added_when_full, oldest_and_rest, sound_again, sound_when_full}
+use Rattle.std.proofs.Common.{◌≡◌, ◌≤◌, ap, arith, length, ◌∙◌}
+use Rattle.ts_cache.proofs.CacheLemmas.{added_when_full, oldest_and_rest, sound_again, sound_when_full}
 use Rattle.ts_cache.proofs.HeldLemmas.{AreApart-filter}
 use Rattle.ts_cache.proofs.IndexLemmas.{is_wide}
 use Rattle.ts_cache.proofs.RenewLemmas.{was_held, was_not_held}
-use Rattle.ts_cache.specs.Held.{AreApart}
 use Rattle.ts_cache.proofs.cache.TsCache.add.Goals as goal
 
 pub renew-requires-then-renew : goal.renew-requires-then-renew

@@ -1,5 +1,5 @@
 use Rattle.std.proofs.Common.{sym, ◌∙◌}
-use Rattle.ts_cache.proofs.IndexLemmas.{removed_point, removed_wide}
+use Rattle.ts_cache.proofs.IndexLemmas.{removed_point}
 use Rattle.ts_cache.proofs.index.Index.remove.Goals as goal
 
 pub returns-then-is_point : goal.returns-then-is_point
