@@ -1,9 +1,10 @@
-use Rattle.std.specs.Prelude.{◌↔◌, ◌<◌, ◌+◌, ◌*◌, ◌==◌, ℕ, Bool, Option, Some, None, Result, Ok, Err, if◌then◌else◌, nat_lt, length, bit_and, bit_xor}
+use Rattle.std.specs.Prelude.{◌≡◌, ◌↔◌, ◌<◌, ◌+◌, ◌*◌, ◌==◌, ℕ, Bool, List, Option, Some, None, Result, Ok, Err, if◌then◌else◌, nat_lt, length, bit_and, bit_xor}
 use Rattle.mr_base.specs.Nodes.{IsMember, IsNode, nodes_in}
 use Rattle.mr_base.specs.declared.ids.NodeId.{NodeId}
 use Rattle.mr_base.specs.declared.nodes.NodeSet.{NodeSet}
 use Rattle.range_log.specs.Facts.{lease_of}
 use Rattle.range_log.specs.LogValue.{LogValue}
+use Rattle.range_log.specs.declared.entries.Entry.{Entry}
 use Rattle.range_log.specs.declared.entries.Lease.{Lease}
 use Rattle.range_log.specs.declared.log.AppendRefusal.{AppendRefusal}
 use Rattle.range_log.specs.declared.log.AppendRefusal.TheVariants.{Stale, NoQuorum}
