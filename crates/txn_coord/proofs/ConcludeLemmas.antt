@@ -1,4 +1,4 @@
-use Rattle.std.proofs.Common.{◌≡◌, ◌⊎◌, ℕ, ◌<◌, ◌≤◌, Bool, true, false, List, [], ◌∷◌, Option, Some, None, IsSome, refl, subst, sym, ap, ◌∙◌, inl, inr, length, nat_lt, cond, arith, option_map, slice_get, zero, suc}
+use Rattle.std.proofs.Common.{◌≡◌, ◌⊎◌, ℕ, ◌<◌, Bool, true, false, List, [], ◌∷◌, Option, Some, None, IsSome, refl, subst, sym, ap, ◌∙◌, inl, inr, length, nat_lt, cond, arith, option_map, slice_get, zero, suc}
 use Rattle.std.proofs.lemmas.Bool.Decides.{nat_tests}
 use Rattle.mr_base.specs.Timestamps.{ts_lt}
 use Rattle.mr_base.specs.declared.ids.AttemptId.{AttemptId}
@@ -11,8 +11,8 @@ use Rattle.mr_base.specs.declared.spans.Write.{Write}
 use Rattle.mr_base.specs.declared.timestamps.Reading.{Reading}
 use Rattle.txn_coord.specs.Asking.{abort_of, asked_by, asks, commit_of, put_of, refresh_of}
 use Rattle.txn_coord.specs.Machine.{Machine, need_of, with_progress, writes_of}
-use Rattle.txn_coord.specs.Moving.{Concludes, HasSent, Moves, gone_on, lay_through, refresh_on, run_on}
-use Rattle.txn_coord.specs.Soundness.{IsDetermined, IsOpen, IsReadOnly, IsSoundIn, IsSoundTxn, IsWriting}
+use Rattle.txn_coord.specs.Moving.{Concludes, HasSent, IsAck, Moves, gone_on, lay_through, refresh_on, run_on}
+use Rattle.txn_coord.specs.Soundness.{IsDetermined, IsOpen, IsReadOnly, IsSoundIn, IsSoundTxn}
 use Rattle.txn_coord.specs.Steps.{HasRun, IsConcluding, IsNeeded, IsToRetry}
 use Rattle.txn_coord.specs.declared.moves.Move.{Move}
 use Rattle.txn_coord.specs.declared.moves.Move.TheVariants as moves
@@ -120,3 +120,11 @@ concluded_sound done m clock (moves.Refuse why) new s c = sound_end course.Over 
 concluded_sound done m clock (moves.Ask range q) new s c = absurd c
 concluded_sound done m clock (moves.Send range q) new s c = absurd c
 concluded_sound done m clock (moves.Retried a cause) new s c = absurd c
+
+-- Once a transaction was acknowledged, its script is done.
+pub ack_done : (done : Bool) (m : Machine) (clock : Reading) (fresh : AttemptId) (made : Move) (new : Machine) → Moves m clock fresh made new → IsSoundTxn done new → IsAck made → done ≡ true
+ack_done done m clock fresh (moves.Ack ts) new h s ack =
+    let e : new.progress.course ≡ course.Acknowledged = ap (λ (x : Machine). x.progress.course) h.1.3 in
+    let going : IsSoundIn course.Acknowledged done new = subst (λ (y : Course). IsSoundIn y done new) e s.going in
+    going.0
+ack_done done m clock fresh _ new h s ack = absurd ack

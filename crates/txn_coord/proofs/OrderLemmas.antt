@@ -1,4 +1,4 @@
-use Rattle.std.proofs.Common.{◌≡◌, ℕ, ◌<◌, Bool, true, false, List, [], ◌∷◌, refl, arith, ap, sym, ◌∙◌, inl, inr, ◌⊎◌, cond, rules, subst}
+use Rattle.std.proofs.Common.{◌≡◌, Bool, true, false, List, [], ◌∷◌, refl, arith, cond, rules, subst}
 use Rattle.std.proofs.lemmas.Bool.Decides.{nat_tests}
 use Rattle.mr_base.specs.Timestamps.{IsBelow, later, ts_lt}
 use Rattle.mr_base.specs.declared.timestamps.Ts.{Ts}

@@ -1,9 +1,9 @@
-use Rattle.std.proofs.Common.{◌≡◌, ◌⊎◌, ℕ, ◌+◌, Bool, List, [], Option, Some, None, refl, subst, sym, inl, inr}
+use Rattle.std.proofs.Common.{◌≡◌, ◌⊎◌, Bool, [], Some, None, refl, subst, sym, inl, inr}
 use Rattle.mr_base.specs.declared.messages.Request.{Request}
 use Rattle.txn_coord.specs.Asking.{sends}
 use Rattle.txn_coord.specs.Machine.{Machine, with_progress}
-use Rattle.txn_coord.specs.Moving.{after_send, resolved_by, sent_course}
-use Rattle.txn_coord.specs.Soundness.{IsAbortedBy, IsAwaited, IsDetermined, IsReadOnly, IsRetrying, IsSoundIn, IsSoundTxn, IsWriting}
+use Rattle.txn_coord.specs.Moving.{after_send, sent_course}
+use Rattle.txn_coord.specs.Soundness.{IsAwaited, IsRetrying, IsSoundIn, IsSoundTxn, IsWriting}
 use Rattle.txn_coord.specs.declared.moves.Refusal.TheVariants as refusal
 use Rattle.txn_coord.specs.declared.progress.Course.{Course}
 use Rattle.txn_coord.specs.declared.progress.Course.TheVariants as course

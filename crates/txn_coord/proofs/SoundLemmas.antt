@@ -1,12 +1,11 @@
-use Rattle.std.proofs.Common.{◌≡◌, Bool, true, false, refl, subst, sym, inl, inr, ◌<◌, length, nat_lt, cond, None, arith}
+use Rattle.std.proofs.Common.{◌≡◌, Bool, true, false, refl, subst, sym, inl, inr, length, nat_lt, cond, None, arith}
 use Rattle.std.proofs.lemmas.Bool.Decides.{nat_tests}
 use Rattle.mr_base.specs.Timestamps.{ts_lt}
 use Rattle.txn_coord.specs.Machine.{Machine, with_progress, writes_of}
-use Rattle.txn_coord.specs.Moving.{lay_on, lay_through, refresh_on}
-use Rattle.txn_coord.specs.Soundness.{IsAnsweredAtOne, IsAwaited, IsDetermined, IsLaid, IsRefreshing, IsSoundIn, IsSoundTxn, IsWriting}
+use Rattle.txn_coord.specs.Moving.{lay_on, lay_through}
+use Rattle.txn_coord.specs.Soundness.{IsAnsweredAtOne, IsAwaited, IsDetermined, IsLaid, IsSoundIn, IsSoundTxn, IsWriting}
 use Rattle.txn_coord.specs.declared.progress.Course.{Course}
 use Rattle.txn_coord.specs.declared.progress.Course.TheVariants as course
-use Rattle.txn_coord.specs.declared.progress.Progress.{Progress}
 use Rattle.txn_coord.proofs.OrderLemmas.{at_read, tested_below}
 
 -- The machine in another course.

@@ -1,31 +1,23 @@
-use Rattle.std.proofs.Common.{◌≡◌, ◌⊎◌, ℕ, ◌+◌, ◌<◌, ◌≤◌, Bool, true, false, List, [], ◌∷◌, ◌++◌, Option, Some, None, refl, subst, sym, ap, ◌∙◌, inl, inr, length, nat_lt, cond, arith, map, option_map, slice_get}
+use Rattle.std.proofs.Common.{◌≡◌, ◌⊎◌, ℕ, ◌<◌, Bool, true, false, List, [], ◌∷◌, Option, Some, None, refl, subst, sym, ap, ◌∙◌, inl, inr, length, nat_lt, cond, arith, option_map, slice_get}
 use Rattle.std.proofs.lemmas.Bool.Decides.{nat_tests}
-use Rattle.std.proofs.lemmas.List.{length-append, map-append}
+use Rattle.std.proofs.lemmas.List.{length-append}
 use Rattle.std.proofs.lemmas.List.Sums.{fold-append}
 use Rattle.std.proofs.lemmas.Option.{slice_get_within}
-use Rattle.mr_base.specs.Scripts.{fed_with}
 use Rattle.mr_base.specs.Timestamps.{later}
 use Rattle.mr_base.specs.declared.ids.RangeId.{RangeId}
 use Rattle.mr_base.specs.declared.messages.Known.{Known}
 use Rattle.mr_base.specs.declared.messages.Reply.{Reply}
 use Rattle.mr_base.specs.declared.messages.Reply.TheVariants as reply
-use Rattle.mr_base.specs.declared.messages.Request.{Request}
-use Rattle.mr_base.specs.declared.script.Fed.{Fed}
-use Rattle.mr_base.specs.declared.script.Need.{Need}
-use Rattle.mr_base.specs.declared.script.Need.TheVariants as need
 use Rattle.mr_base.specs.declared.spans.Ask.{Ask}
-use Rattle.mr_base.specs.declared.spans.Pair.{Pair}
 use Rattle.mr_base.specs.declared.spans.Write.{Write}
 use Rattle.mr_base.specs.declared.timestamps.Ts.{Ts}
 use Rattle.range_log.specs.declared.entries.RetryCause.{RetryCause}
 use Rattle.range_log.specs.declared.entries.RetryCause.TheVariants as cause
-use Rattle.txn_coord.specs.Asking.{asks, asked_by, needed_read, put_of, range_of, refresh_of}
-use Rattle.txn_coord.specs.Fates.{AreInOrder, learned}
-use Rattle.txn_coord.specs.Machine.{Machine, greatest, machine_of, need_of, with_progress, writes_of}
-use Rattle.txn_coord.specs.Refusing.{abort_due, goes_to, is_empty, refused, refused_decided, retry_due, retry_limit}
-use Rattle.txn_coord.specs.Soundness.{IsAbortedBy, IsAborting, IsAwaited, IsDetermined, IsReading, IsRefreshing, IsRetrying, IsSoundBack, IsSoundIn, IsSoundTxn, IsWriting, spans_of}
-use Rattle.txn_coord.specs.Taking.{Answers, after, after_abort, after_commit, after_push, after_put, after_read, after_refresh, course_back, fed_by, laid_at, learns, own_abort, pushes, refreshed, served_with}
-use Rattle.txn_coord.specs.declared.moves.Refusal.{Refusal}
+use Rattle.txn_coord.specs.Asking.{asked_by, put_of, range_of, refresh_of}
+use Rattle.txn_coord.specs.Machine.{Machine, need_of, with_progress, writes_of}
+use Rattle.txn_coord.specs.Refusing.{abort_due, goes_to, is_empty, refused, retry_due, retry_limit}
+use Rattle.txn_coord.specs.Soundness.{IsAborting, IsAwaited, IsDetermined, IsRefreshing, IsSoundBack, IsSoundIn, IsSoundTxn, IsWriting}
+use Rattle.txn_coord.specs.Taking.{Answers, after_abort, after_commit, after_push, after_put, after_refresh, course_back, laid_at, learns, own_abort, refreshed}
 use Rattle.txn_coord.specs.declared.moves.Refusal.TheVariants as refusal
 use Rattle.txn_coord.specs.declared.progress.Back.{Back}
 use Rattle.txn_coord.specs.declared.progress.Back.TheVariants as back

@@ -1,4 +1,4 @@
-use Rattle.std.specs.Prelude.{◌≡◌, ◌==◌, ℕ, List, [], ◌∷◌, Option, Some, None, Bool, length, map, take_while, slice_get, slice_range, option_map}
+use Rattle.std.specs.Prelude.{◌==◌, ℕ, List, [], ◌∷◌, Option, Some, None, Bool, length, map, take_while, slice_get, slice_range, option_map}
 use Rattle.mr_base.specs.declared.ids.RangeId.{RangeId}
 use Rattle.mr_base.specs.declared.messages.Fate.{Fate}
 use Rattle.mr_base.specs.declared.messages.Fate.TheVariants as fate
@@ -8,7 +8,6 @@ use Rattle.mr_base.specs.declared.script.Need.{Need}
 use Rattle.mr_base.specs.declared.script.Need.TheVariants as need
 use Rattle.mr_base.specs.declared.spans.Ask.{Ask}
 use Rattle.mr_base.specs.declared.spans.Write.{Write}
-use Rattle.mr_base.specs.declared.timestamps.Ts.{Ts}
 use Rattle.txn_coord.specs.Machine.{Machine, need_of, writes_of}
 use Rattle.txn_coord.specs.declared.moves.Refusal.TheVariants as refusal
 use Rattle.txn_coord.specs.declared.progress.Back.{Back}
@@ -29,7 +28,8 @@ range_of (request.Commit a r at) = r
 range_of (request.Abort a r) = r
 range_of (request.Resolve a r keys fate) = r
 
--- 'Run': the span that the script needs is read at the read timestamp, with the limit and all fates.
+-- While it reads, a transaction asks the span that its script needs, at the read timestamp, with the limit
+-- and all fates. (This project's profile, after VanBenschoten et al., SIGMOD 2022.)
 abbrev pub read_of : Progress → Ask → Request
 read_of t a = request.Read t.attempt a.range a.span t.read t.limit t.fates
 
@@ -38,24 +38,25 @@ needed_read t (need.Ask a) = Some (read_of t a)
 needed_read t need.Done = None
 needed_read t (need.Fault s) = None
 
--- 'Lay': the last value of a key is put at the write timestamp, with the transaction's start, the anchor
--- and all fates.
+-- It lays its writes one after the other, the last value of each key, at the write timestamp, with the
+-- transaction's start, the anchor and all fates. (This project's profile.)
 abbrev pub put_of : Progress → Option RangeId → Option Write → Option Request
 put_of t (Some anchor) (Some w) = Some (request.Put t.attempt w.range t.start anchor t.at w.key w.value t.fates)
 put_of t _ _ = None
 
--- 'Refresh': a span that was served is refreshed from the read timestamp to the write timestamp.
+-- It refreshes what it was served, span by span, from the read timestamp to the write timestamp. (Taft et
+-- al., SIGMOD 2020, in this project's profile.)
 abbrev pub refresh_of : Progress → Ask → Request
 refresh_of t a = request.Refresh t.attempt a.range a.span t.read t.at t.fates
 
 -- A reader pushes the other attempt, at its anchor, above the timestamp at which it reads or refreshes. A
--- writer names its own start and the other's, so that the older of the two goes on.
+-- writer names its own start and the other's, so that the older of the two goes on. (This project's profile.)
 abbrev pub push_of : Progress → Obstacle → Back → Request
 push_of t o back.Read = request.PushReader t.attempt o.anchor o.attempt t.read
 push_of t o back.Refresh = request.PushReader t.attempt o.anchor o.attempt t.at
 push_of t o back.Put = request.PushWriter t.attempt o.anchor o.attempt t.start o.start
 
--- 'End': the attempt commits at its write timestamp, at its anchor, or aborts there.
+-- It ends at its anchor: it commits there at its write timestamp, or aborts there.
 abbrev pub commit_of : Progress → RangeId → Request
 commit_of t anchor = request.Commit t.attempt anchor t.at
 
@@ -76,7 +77,7 @@ asked_by _ n ws t = None
 abbrev pub asks : Machine → Option Request
 asks m = asked_by m.progress.course (need_of m) (writes_of m) m.progress
 
--- 'Resolve': writes at the front that are in one range are resolved together.
+-- Writes that follow one another in one range are resolved together.
 abbrev pub is_in : RangeId → Write → Bool
 is_in range w = w.range.0 == range.0
 

@@ -1,4 +1,4 @@
-use Rattle.std.specs.Prelude.{◌≡◌, ℕ, ◌+◌, ◌-◌, List, [], ◌∷◌, Option, Some, None, false, fold}
+use Rattle.std.specs.Prelude.{ℕ, ◌+◌, ◌-◌, List, [], ◌∷◌, Option, Some, None, false, fold}
 use Rattle.mr_base.specs.Scripts.{Program}
 use Rattle.mr_base.specs.Timestamps.{later, of_reading}
 use Rattle.mr_base.specs.declared.ids.AttemptId.{AttemptId}
@@ -29,8 +29,11 @@ pub record Machine : Type 0 where
 abbrev pub machine_of : Program → List Fed → Progress → Machine
 machine_of program fed t = record { program = program; fed = fed; progress = t }
 
+abbrev pub machine_at : {S : Type 0} → (S → Program) → (S → List Fed) → S → Progress → Machine
+machine_at program fed script t = machine_of (program script) (fed script) t
+
 abbrev pub machine : {S : Type 0} → (S → Program) → (S → List Fed) → Held S → Machine
-machine program fed t = machine_of (program t.script) (fed t.script) t.progress
+machine program fed t = machine_at program fed t.script t.progress
 
 -- The same machine, as far as this.
 abbrev pub with_progress : Machine → Progress → Machine
@@ -43,7 +46,7 @@ need_of m = m.program.need_after m.fed
 abbrev pub writes_of : Machine → List Write
 writes_of m = m.program.writes_after m.fed
 
--- The range of an attempt's record: that of its first write.
+-- The anchor, the range of an attempt's record: that of its first write. (This project's profile.)
 abbrev pub anchor_of : List Write → Option RangeId
 anchor_of [] = None
 anchor_of (w ∷ ws) = Some w.range
@@ -56,18 +59,19 @@ greatest read laid = fold later read laid
 abbrev pub next_above : Ts → AttemptId → Ts
 next_above t a = record { wall = t.wall; logical = t.logical + 1; owner = a.0 }
 
--- 'Begin': a transaction of the present reads at its start, one of the past so many milliseconds before it,
--- not below wall 0.
+-- A transaction of the present reads at its start, one of the past so many milliseconds before it, not below
+-- wall 0. (This project's profile.)
 abbrev pub first_read : Kind → Ts → Ts
 first_read (kind.Ago ms) start = record { wall = start.wall - ms; logical = 0; owner = start.owner }
 first_read _ start = start
 
--- A version up to the greatest offset of two clocks above the start is uncertain; a read of the past is not
--- uncertain of anything.
+-- A version at most the greatest offset of two clocks above the start is uncertain, over all retries; to a
+-- read of the past none is. (Taft et al., SIGMOD 2020.)
 abbrev pub limit_of : Kind → Ts → Settings → Option ℕ
 limit_of (kind.Ago ms) start s = None
 limit_of _ start s = Some (start.wall + s.max_offset)
 
+-- When it reads is known at its start.
 abbrev pub IsTimed : Kind → Type 0
 IsTimed (kind.Within ms any) = ⊥
 IsTimed _ = Unit {0}

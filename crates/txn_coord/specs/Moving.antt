@@ -1,4 +1,4 @@
-use Rattle.std.specs.Prelude.{◌≡◌, ◌≢◌, ℕ, ◌+◌, ◌<◌, ◌≤◌, ⊤, List, [], ◌∷◌, Option, Some, None, Bool, true, false, ◌&&◌, length, nat_lt, if◌then◌else◌}
+use Rattle.std.specs.Prelude.{◌≡◌, ℕ, ◌+◌, ◌<◌, ◌≤◌, ⊤, List, [], ◌∷◌, Option, Some, None, length, nat_lt, if◌then◌else◌}
 use Rattle.mr_base.specs.Timestamps.{ts_lt}
 use Rattle.mr_base.specs.declared.ids.AttemptId.{AttemptId}
 use Rattle.mr_base.specs.declared.messages.Request.{Request}
@@ -7,10 +7,9 @@ use Rattle.mr_base.specs.declared.script.Need.{Need}
 use Rattle.mr_base.specs.declared.script.Need.TheVariants as need
 use Rattle.mr_base.specs.declared.spans.Write.{Write}
 use Rattle.mr_base.specs.declared.timestamps.Reading.{Reading}
-use Rattle.mr_base.specs.declared.timestamps.Ts.{Ts}
 use Rattle.range_log.specs.declared.entries.RetryCause.{RetryCause}
 use Rattle.txn_coord.specs.Asking.{asks, range_of, sends}
-use Rattle.txn_coord.specs.Machine.{Machine, anchor_of, need_of, with_progress, writes_of}
+use Rattle.txn_coord.specs.Machine.{Machine, need_of, with_progress, writes_of}
 use Rattle.txn_coord.specs.Refusing.{goes_to, retried}
 use Rattle.txn_coord.specs.declared.moves.Move.{Move}
 use Rattle.txn_coord.specs.declared.moves.Move.TheVariants as moves
@@ -24,7 +23,7 @@ abbrev pub run_through : List Write → Progress → Progress
 run_through [] t = record t { course = course.Answering }
 run_through (w ∷ ws) t = record t { anchor = Some w.range; course = course.Laying }
 
--- 'Run' ends where the script needs nothing more. A fault is answered at the read timestamp.
+-- Reading ends where the script needs nothing more. A fault is answered at the read timestamp.
 abbrev pub run_on : Need → List Write → Progress → Progress
 run_on (need.Ask a) ws t = t
 run_on need.Done ws t = run_through ws t
@@ -110,3 +109,7 @@ Moves m clock fresh (moves.Retried attempt c) new =
 Moves m clock fresh (moves.Ask range q) new =
     HasSent m × (asks (gone_on m) ≡ Some q) × (range ≡ range_of q) × (new ≡ awaits q (gone_on m))
 Moves m clock fresh move new = HasSent m × Concludes (gone_on m) clock move new
+
+abbrev pub IsAck : Move → Type 0
+IsAck (moves.Ack ts) = ⊤
+IsAck _ = ⊥

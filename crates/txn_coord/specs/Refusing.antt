@@ -1,4 +1,4 @@
-use Rattle.std.specs.Prelude.{◌≡◌, ℕ, ◌+◌, List, [], ◌∷◌, Option, Some, None, Bool, true, false, ◌||◌, nat_lt, if◌then◌else◌}
+use Rattle.std.specs.Prelude.{ℕ, ◌+◌, List, [], ◌∷◌, Option, None, Bool, true, false, ◌||◌, nat_lt, if◌then◌else◌}
 use Rattle.mr_base.specs.Timestamps.{later}
 use Rattle.mr_base.specs.declared.ids.AttemptId.{AttemptId}
 use Rattle.mr_base.specs.declared.ids.MsgId.{MsgId}
@@ -17,19 +17,20 @@ use Rattle.txn_coord.specs.declared.progress.Progress.{Progress}
 abbrev pub goes_to : Course → Progress → Progress
 goes_to c t = record t { asked = None; course = c }
 
--- Where a put of the attempt was laid, or was sent as a message, one abort goes to the anchor.
+-- Of a transaction that ends refused one abort goes to the anchor where a put of the attempt was laid, or was
+-- sent as a message. Nobody awaits it. (This project's profile.)
 abbrev pub abort_due : Progress → Option RangeId
 abort_due t = if t.put_out then t.anchor else None
 
--- A transaction ends refused.
+-- A transaction ends refused, with that abort ..
 abbrev pub refused : Refusal → Progress → Progress
 refused why t = goes_to (course.Refused why (abort_due t)) t
 
--- Without an abort.
+-- .. or without it, where the attempt is aborted already, or may have committed.
 abbrev pub refused_decided : Refusal → Progress → Progress
 refused_decided why t = goes_to (course.Refused why None) t
 
--- A transaction is tried again at most 64 times.
+-- A transaction is tried again at most 64 times. (This project's profile.)
 abbrev pub retry_limit : ℕ
 retry_limit = 64
 
@@ -72,7 +73,7 @@ retried c t fresh = record t {
   course = course.Reading;
 }
 
--- The request that is outstanding went out as a message.
+-- A put that is outstanding went out as a message.
 abbrev pub is_put : Course → Bool
 is_put course.Laying = true
 is_put _ = false

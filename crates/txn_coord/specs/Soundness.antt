@@ -1,4 +1,4 @@
-use Rattle.std.specs.Prelude.{◌≡◌, ◌⊎◌, ℕ, ◌<◌, ◌≤◌, ⊤, List, [], Option, Some, None, Bool, true, false, IsSome, length, map, option_map}
+use Rattle.std.specs.Prelude.{◌≡◌, ◌⊎◌, ◌<◌, ◌≤◌, ⊤, List, [], Option, Some, None, Bool, true, IsSome, length, map, option_map}
 use Rattle.mr_base.specs.Scripts.{IsDone}
 use Rattle.mr_base.specs.Timestamps.{IsBelow}
 use Rattle.mr_base.specs.declared.ids.RangeId.{RangeId}

@@ -1,4 +1,4 @@
-use Rattle.std.specs.Prelude.{◌≡◌, ℕ, ◌+◌, ⊤, List, [], ◌∷◌, ◌++◌, Option, Some, None, Bool, true, false}
+use Rattle.std.specs.Prelude.{◌+◌, ⊤, List, [], ◌∷◌, ◌++◌, Option, Some, None, true}
 use Rattle.mr_base.specs.Scripts.{fed_with}
 use Rattle.mr_base.specs.Timestamps.{later}
 use Rattle.mr_base.specs.declared.ids.RangeId.{RangeId}
@@ -60,7 +60,7 @@ course_back back.Refresh = course.Refreshing
 abbrev pub learns : Known → Progress → Progress
 learns k t = record t { fates = learned k t.fates }
 
--- 'Run': rows are fed to the script, and their span counts as served.
+-- Rows are fed to the script, and their span counts as served.
 abbrev pub served_with : Ask → Progress → Progress
 served_with a t = record (goes_to course.Reading t) { served = t.served ++ a ∷ [] }
 
@@ -69,11 +69,11 @@ fed_by (need.Ask a) pairs m = record { program = m.program; fed = m.fed ++ fed_w
 fed_by need.Done pairs m = m
 fed_by (need.Fault s) pairs m = m
 
--- 'Lay': the put stands, and a higher timestamp raises the write timestamp.
+-- A put stands, and a higher timestamp raises the write timestamp.
 abbrev pub laid_at : Ts → Progress → Progress
 laid_at ts t = record (goes_to course.Laying t) { at = later t.at ts; laid = t.laid ++ ts ∷ []; put_out = true }
 
--- 'Refresh': one more span is as it was.
+-- One more span reads at the write timestamp as it was read.
 abbrev pub refreshed : Progress → Progress
 refreshed t = record (goes_to course.Refreshing t) { again = t.again + 1 }
 

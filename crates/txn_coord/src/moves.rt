@@ -4,7 +4,7 @@ use mr_base::{AttemptId, Bytes, MsgId, NodeSet, RangeId, Request, SqlState, Ts};
 use range_log::RetryCause;
 
 /// Why a transaction is refused.
-#[derive(Debug, PartialEq, Eq, Drop)]
+#[derive(Drop)]
 pub enum Refusal {
     /// An older attempt that is alive has an intent at this key.
     Conflict { key: Bytes, other: AttemptId },
@@ -27,7 +27,7 @@ pub enum Refusal {
 }
 
 /// What a transaction does next.
-#[derive(Debug, PartialEq, Eq, Drop)]
+#[derive(Drop)]
 pub enum Move {
     /// It asks this of a replica of the range, and awaits the reply.
     Ask {

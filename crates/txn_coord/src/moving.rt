@@ -4,7 +4,7 @@ ghost use Rattle.std.specs.Prelude.{◌≡◌, ◌⊎◌, ◌<◌, List, [], Som
 ghost use Rattle.mr_base.specs.Scripts.{IsDone, Program};
 ghost use Rattle.mr_base.specs.declared.script.Fed.{Fed};
 ghost use Rattle.txn_coord.specs.Asking.{asks, put_of, range_of, refresh_of, resolve_of, sends, unresolved};
-ghost use Rattle.txn_coord.specs.Machine.{machine_of, need_of, writes_of};
+ghost use Rattle.txn_coord.specs.Machine.{machine_at, machine_of, need_of, writes_of};
 ghost use Rattle.txn_coord.specs.Moving.{Concludes, HasSent, Moves, after_send, gone_on, lay_on, refresh_on, resolved_by, run_on, run_through, sent_course};
 ghost use Rattle.txn_coord.specs.Soundness.{IsOpen, IsSoundTxn, IsWriting};
 ghost use Rattle.txn_coord.specs.Steps.{HasRun, IsConcluding, IsNeeded, IsToRetry};
@@ -25,11 +25,12 @@ pub fn next_move<S: Script>(
     clock: Reading,
     fresh: AttemptId,
 ) -> Result<Move, Memory>
-    requires sound { IsSoundTxn (S.done script.old) (machine_of (S.program script.old) (S.fed script.old) t.old) }
+    requires sound { IsSoundTxn (S.done script.old) (machine_at S.program S.fed script.old t.old) }
     requires free { t.old.asked ≡ None }
     requires open { IsOpen t.old.course }
-    ensures moves { IfOk result (λ made. Moves (machine_of (S.program script.old) (S.fed script.old) t.old) clock fresh made (machine_of (S.program script.new) (S.fed script.new) t.new)) }
-    ensures sound { OnOk result (IsSoundTxn (S.done script.new) (machine_of (S.program script.new) (S.fed script.new) t.new)) }
+    ensures moves { IfOk result (λ made. Moves (machine_at S.program S.fed script.old t.old)
+        clock fresh made (machine_at S.program S.fed script.new t.new)) }
+    ensures sound { OnOk result (IsSoundTxn (S.done script.new) (machine_at S.program S.fed script.new t.new)) }
 {
     if let Some(request) = unawaited(alloc, script, t)? {
         return send(t, request);
@@ -42,8 +43,8 @@ pub fn next_move<S: Script>(
 
 /// What goes out without being awaited, if anything is left of it.
 fn unawaited<S: Script>(alloc: Global, script: &S, t: &Progress) -> Result<Option<Request>, Memory>
-    requires { IsSoundTxn (S.done script.now) (machine_of (S.program script.now) (S.fed script.now) t.now) }
-    ensures { IfOk result (λ q. q ≡ sends (machine_of (S.program script.now) (S.fed script.now) t.now)) }
+    requires { IsSoundTxn (S.done script.now) (machine_at S.program S.fed script.now t.now) }
+    ensures { IfOk result (λ q. q ≡ sends (machine_at S.program S.fed script.now t.now)) }
 {
     match &t.course {
         Course::Answering => resolves(alloc, script, t, Fate::Committed(t.at)),
@@ -67,8 +68,9 @@ fn resolves<S: Script>(
     t: &Progress,
     fate: Fate,
 ) -> Result<Option<Request>, Memory>
-    requires { (t.now.laid ≡ []) ⊎ IsWriting (S.done script.now) (machine_of (S.program script.now) (S.fed script.now) t.now) }
-    ensures { IfOk result (λ q. q ≡ resolve_of t.now fate (unresolved t.now (writes_of (machine_of (S.program script.now) (S.fed script.now) t.now)))) }
+    requires { (t.now.laid ≡ []) ⊎ IsWriting (S.done script.now) (machine_at S.program S.fed script.now t.now) }
+    ensures { IfOk result (λ q. q
+        ≡ resolve_of t.now fate (unresolved t.now (writes_of (machine_at S.program S.fed script.now t.now)))) }
 {
     let laid = t.laid.len();
     if laid <= t.resolved {
@@ -121,11 +123,12 @@ fn retry<S: Script>(
     t: &mut Progress,
     fresh: AttemptId,
 ) -> Result<Move, Memory>
-    requires sound { IsSoundTxn (S.done script.old) (machine_of (S.program script.old) (S.fed script.old) t.old) }
+    requires sound { IsSoundTxn (S.done script.old) (machine_at S.program S.fed script.old t.old) }
     requires due { IsToRetry t.old.course }
-    requires sent { HasSent (machine_of (S.program script.old) (S.fed script.old) t.old) }
-    ensures moves { IfOk result (λ made. (clock : Reading) → Moves (machine_of (S.program script.old) (S.fed script.old) t.old) clock fresh made (machine_of (S.program script.new) (S.fed script.new) t.new)) }
-    ensures sound { OnOk result (IsSoundTxn (S.done script.new) (machine_of (S.program script.new) (S.fed script.new) t.new)) }
+    requires sent { HasSent (machine_at S.program S.fed script.old t.old) }
+    ensures moves { IfOk result (λ made. (clock : Reading) → Moves (machine_at S.program S.fed script.old t.old)
+        clock fresh made (machine_at S.program S.fed script.new t.new)) }
+    ensures sound { OnOk result (IsSoundTxn (S.done script.new) (machine_at S.program S.fed script.new t.new)) }
 {
     match mem::replace(&mut t.course, Course::Over) {
         Course::Retrying { cause } => {
@@ -147,13 +150,14 @@ fn ask_or_answer<S: Script>(
     t: &mut Progress,
     clock: Reading,
 ) -> Result<Move, Memory>
-    requires sound { IsSoundTxn (S.done script.old) (machine_of (S.program script.old) (S.fed script.old) t.old) }
+    requires sound { IsSoundTxn (S.done script.old) (machine_at S.program S.fed script.old t.old) }
     requires free { t.old.asked ≡ None }
     requires open { IsOpen t.old.course }
     requires not_due { ¬ IsToRetry t.old.course }
-    requires sent { HasSent (machine_of (S.program script.old) (S.fed script.old) t.old) }
-    ensures moves { IfOk result (λ made. (fresh : AttemptId) → Moves (machine_of (S.program script.old) (S.fed script.old) t.old) clock fresh made (machine_of (S.program script.new) (S.fed script.new) t.new)) }
-    ensures sound { OnOk result (IsSoundTxn (S.done script.new) (machine_of (S.program script.new) (S.fed script.new) t.new)) }
+    requires sent { HasSent (machine_at S.program S.fed script.old t.old) }
+    ensures moves { IfOk result (λ made. (fresh : AttemptId) → Moves (machine_at S.program S.fed script.old t.old)
+        clock fresh made (machine_at S.program S.fed script.new t.new)) }
+    ensures sound { OnOk result (IsSoundTxn (S.done script.new) (machine_at S.program S.fed script.new t.new)) }
 {
     if let Some(ask) = go_on(script, t)? {
         let request = read(alloc, t, ask)?;
@@ -167,11 +171,13 @@ fn ask_or_answer<S: Script>(
 
 /// What needs no reply is done: the span that the script needs, if it needs one.
 fn go_on<S: Script>(script: &mut S, t: &mut Progress) -> Result<Option<Ask>, Memory>
-    requires sound { IsSoundTxn (S.done script.old) (machine_of (S.program script.old) (S.fed script.old) t.old) }
+    requires sound { IsSoundTxn (S.done script.old) (machine_at S.program S.fed script.old t.old) }
     requires free { t.old.asked ≡ None }
-    ensures gone { OnOk result (machine_of (S.program script.new) (S.fed script.new) t.new ≡ gone_on (machine_of (S.program script.old) (S.fed script.old) t.old)) }
-    ensures sound { OnOk result (IsSoundTxn (S.done script.new) (machine_of (S.program script.new) (S.fed script.new) t.new)) }
-    ensures needed { IfOk result (λ ask. IsNeeded (need_of (machine_of (S.program script.new) (S.fed script.new) t.new)) t.new.course ask) }
+    ensures gone { OnOk result
+        (machine_at S.program S.fed script.new t.new ≡ gone_on (machine_at S.program S.fed script.old t.old)) }
+    ensures sound { OnOk result (IsSoundTxn (S.done script.new) (machine_at S.program S.fed script.new t.new)) }
+    ensures needed { IfOk result (λ ask. IsNeeded (need_of
+        (machine_at S.program S.fed script.new t.new)) t.new.course ask) }
 {
     match &t.course {
         Course::Reading => run_on(script, t),
@@ -192,9 +198,12 @@ fn run_on<S: Script>(script: &mut S, t: &mut Progress) -> Result<Option<Ask>, Me
     requires reading { t.old.course ≡ Course.Reading }
     ensures program { OnOk result (S.program script.new ≡ S.program script.old) }
     ensures fed { OnOk result (S.fed script.new ≡ S.fed script.old) }
-    ensures done { OnOk result (IsDone (need_of (machine_of (S.program script.new) (S.fed script.new) t.new)) → S.done script.new ≡ true) }
-    ensures run { OnOk result (t.new ≡ run_on (need_of (machine_of (S.program script.old) (S.fed script.old) t.old)) (writes_of (machine_of (S.program script.old) (S.fed script.old) t.old)) t.old) }
-    ensures needed { IfOk result (λ ask. IsNeeded (need_of (machine_of (S.program script.old) (S.fed script.old) t.old)) t.new.course ask) }
+    ensures done { OnOk result (IsDone (need_of
+        (machine_at S.program S.fed script.new t.new)) → S.done script.new ≡ true) }
+    ensures run { OnOk result (t.new ≡ run_on (need_of (machine_at S.program S.fed script.old t.old)) (writes_of
+        (machine_at S.program S.fed script.old t.old)) t.old) }
+    ensures needed { IfOk result (λ ask. IsNeeded (need_of
+        (machine_at S.program S.fed script.old t.old)) t.new.course ask) }
 {
     match script.need()? {
         Need::Ask(ask) => Ok(Some(ask)),
@@ -250,9 +259,9 @@ fn refresh_on(t: &mut Progress)
 
 /// The request that is asked, other than a read.
 fn asked<S: Script>(alloc: Global, script: &S, t: &Progress) -> Result<Option<Request>, Memory>
-    requires sound { IsSoundTxn (S.done script.now) (machine_of (S.program script.now) (S.fed script.now) t.now) }
+    requires sound { IsSoundTxn (S.done script.now) (machine_at S.program S.fed script.now t.now) }
     requires run { HasRun t.now.course }
-    ensures { IfOk result (λ q. q ≡ asks (machine_of (S.program script.now) (S.fed script.now) t.now)) }
+    ensures { IfOk result (λ q. q ≡ asks (machine_at S.program S.fed script.now t.now)) }
 {
     match &t.course {
         Course::Laying => next_put(alloc, script.writes(), t),
@@ -298,7 +307,8 @@ fn await_reply(t: &mut Progress, request: Request) -> Move
 /// The answer once the clock has passed its timestamp, or the refusal.
 fn answer(t: &mut Progress, clock: Reading) -> Move
     requires { IsConcluding t.old.course }
-    ensures { (program : Program) (fed : List Fed) → Concludes (machine_of program fed t.old) clock result (machine_of program fed t.new) }
+    ensures { (program : Program) (fed : List Fed)
+        → Concludes (machine_of program fed t.old) clock result (machine_of program fed t.new) }
 {
     match mem::replace(&mut t.course, Course::Over) {
         Course::Answering => acknowledge(t, clock),
@@ -312,7 +322,9 @@ fn answer(t: &mut Progress, clock: Reading) -> Move
 }
 
 fn acknowledge(t: &mut Progress, clock: Reading) -> Move
-    ensures { (program : Program) (fed : List Fed) → Concludes (machine_of program fed (record t.old { course = Course.Answering })) clock result (machine_of program fed t.new) }
+    ensures { (program : Program) (fed : List Fed)
+        → Concludes (machine_of program fed (record t.old { course = Course.Answering }))
+        clock result (machine_of program fed t.new) }
 {
     if clock.wall < t.at.wall {
         t.course = Course::Answering;
@@ -323,7 +335,9 @@ fn acknowledge(t: &mut Progress, clock: Reading) -> Move
 }
 
 fn fault(t: &mut Progress, clock: Reading, state: SqlState) -> Move
-    ensures { (program : Program) (fed : List Fed) → Concludes (machine_of program fed (record t.old { course = Course.Faulting state })) clock result (machine_of program fed t.new) }
+    ensures { (program : Program) (fed : List Fed)
+        → Concludes (machine_of program fed (record t.old { course = Course.Faulting state }))
+        clock result (machine_of program fed t.new) }
 {
     if clock.wall < t.read.wall {
         t.course = Course::Faulting { state };

@@ -2,7 +2,7 @@
 
 ghost use Rattle.std.specs.Prelude.{◌≡◌, OnOk, Some};
 ghost use Rattle.mr_base.specs.Scripts.{AsksFor};
-ghost use Rattle.txn_coord.specs.Machine.{machine_of};
+ghost use Rattle.txn_coord.specs.Machine.{machine_at};
 ghost use Rattle.txn_coord.specs.Refusing.{goes_to};
 ghost use Rattle.txn_coord.specs.Soundness.{IsSoundTxn};
 ghost use Rattle.txn_coord.specs.Taking.{Answers, after, after_abort, after_commit, after_push, after_put, after_read, after_refresh, course_back, fed_by, laid_at, learns, pushes, refreshed};
@@ -26,11 +26,12 @@ pub fn take_reply<S: Script>(
     range: RangeId,
     reply: &Reply,
 ) -> Result<(), Memory>
-    requires sound { IsSoundTxn (S.done script.old) (machine_of (S.program script.old) (S.fed script.old) t.old) }
+    requires sound { IsSoundTxn (S.done script.old) (machine_at S.program S.fed script.old t.old) }
     requires asked { t.old.asked ≡ Some range }
     requires fits { Answers t.old.course reply.now }
-    ensures after { OnOk result (machine_of (S.program script.new) (S.fed script.new) t.new ≡ after reply.now (machine_of (S.program script.old) (S.fed script.old) t.old)) }
-    ensures sound { OnOk result (IsSoundTxn (S.done script.new) (machine_of (S.program script.new) (S.fed script.new) t.new)) }
+    ensures after { OnOk result (machine_at S.program S.fed script.new t.new
+        ≡ after reply.now (machine_at S.program S.fed script.old t.old)) }
+    ensures sound { OnOk result (IsSoundTxn (S.done script.new) (machine_at S.program S.fed script.new t.new)) }
 {
     match mem::replace(&mut t.course, Course::Over) {
         Course::Reading => take_read(alloc, script, t, reply),
@@ -56,7 +57,8 @@ fn push_other(
     anchor: RangeId,
     back: Back,
 ) -> Result<(), Memory>
-    ensures { OnOk result (t.new ≡ pushes (record { key = key.now; attempt = attempt; start = start; anchor = anchor }) back t.old) }
+    ensures { OnOk result (t.new
+        ≡ pushes (record { key = key.now; attempt = attempt; start = start; anchor = anchor }) back t.old) }
 {
     let other = Obstacle {
         key: key.clone_in(alloc)?,
@@ -84,7 +86,8 @@ fn take_read<S: Script>(
 ) -> Result<(), Memory>
     requires needs { AsksFor ((S.program script.old).need_after (S.fed script.old)) }
     requires fits { Answers Course.Reading reply.now }
-    ensures { OnOk result (machine_of (S.program script.new) (S.fed script.new) t.new ≡ after_read reply.now (machine_of (S.program script.old) (S.fed script.old) t.old)) }
+    ensures { OnOk result (machine_at S.program S.fed script.new t.new
+        ≡ after_read reply.now (machine_at S.program S.fed script.old t.old)) }
 {
     match reply {
         Reply::Rows { pairs } => serve(script, t, pairs.as_slice()),
@@ -106,7 +109,9 @@ fn take_read<S: Script>(
 /// Rows are fed to the script, and their span counts as served.
 fn serve<S: Script>(script: &mut S, t: &mut Progress, rows: &[Pair]) -> Result<(), Memory>
     requires { AsksFor ((S.program script.old).need_after (S.fed script.old)) }
-    ensures { OnOk result (machine_of (S.program script.new) (S.fed script.new) t.new ≡ fed_by ((S.program script.old).need_after (S.fed script.old)) rows.now (machine_of (S.program script.old) (S.fed script.old) t.old)) }
+    ensures { OnOk result (machine_at S.program S.fed script.new t.new
+        ≡ fed_by ((S.program script.old).need_after (S.fed script.old)) rows.now
+        (machine_at S.program S.fed script.old t.old)) }
 {
     match script.need()? {
         Need::Ask(ask) => {

@@ -1,6 +1,6 @@
 //! The transaction at its gateway.
 
-ghost use Rattle.std.specs.Prelude.{◌≡◌, [], Some, None, IsSome, IfOk, OnOk};
+ghost use Rattle.std.specs.Prelude.{◌≡◌, [], Some, None, true, IsSome, IfOk, OnOk};
 
 use crate::beginning::begun;
 use crate::moves::Move;
@@ -35,13 +35,13 @@ impl<S: Script> Model for Txn<S> {
 
 impl<S: Script> Txn<S> {
     ghost use Rattle.txn_coord.specs.Machine.{IsTimed, begun, machine, machine_of, with_progress};
-    ghost use Rattle.txn_coord.specs.Moving.{Moves, due_of};
+    ghost use Rattle.txn_coord.specs.Moving.{IsAck, Moves, due_of};
     ghost use Rattle.txn_coord.specs.Refusing.{exhausted_at, sent_out, timed_out_at};
     ghost use Rattle.txn_coord.specs.Soundness.{IsOpen, IsSoundTxn};
     ghost use Rattle.txn_coord.specs.Taking.{Answers, after};
 
-    /// A transaction begins with its first attempt, at a reading of its gateway's clock. Nothing was fed to
-    /// its script. A sum that passes its type is want of memory, here and below.
+    /// A transaction begins with its first attempt, at a reading that its gateway's clock gave to it alone.
+    /// Nothing was fed to its script. A sum that passes its type is want of memory, here and below.
     pub fn begin(
         alloc: Global,
         id: TxnId,
@@ -53,7 +53,8 @@ impl<S: Script> Txn<S> {
     ) -> Result<Txn<S>, Memory>
         requires timed { IsTimed kind }
         requires unfed { S.fed script ≡ [] }
-        ensures begun { IfOk result (λ t. machine S.program S.fed t ≡ machine_of (S.program script) [] (begun id attempt kind start s.now)) }
+        ensures begun { IfOk result (λ t. machine S.program S.fed t
+            ≡ machine_of (S.program script) [] (begun id attempt kind start s.now)) }
         ensures sound { IfOk result (λ t. IsSoundTxn (S.done t.script) (machine S.program S.fed t)) }
     {
         let progress = begun(alloc, id, attempt, kind, start, s)?;
@@ -64,13 +65,15 @@ impl<S: Script> Txn<S> {
         })
     }
 
-    /// What the transaction does next, by its gateway's clock; a retry takes the fresh attempt's number. No
-    /// request is outstanding, and no answer was given.
+    /// What the transaction does next, by its gateway's clock; a retry alone takes the fresh attempt's number.
+    /// No request is outstanding, and no answer was given.
     pub fn next(&mut self, clock: Reading, fresh: AttemptId) -> Result<Move, Memory>
         requires sound { IsSoundTxn (S.done self.old.script) (machine S.program S.fed self.old) }
         requires free { self.old.progress.asked ≡ None }
         requires open { IsOpen self.old.progress.course }
-        ensures moves { IfOk result (λ made. Moves (machine S.program S.fed self.old) clock fresh made (machine S.program S.fed self.new)) }
+        ensures moves { IfOk result (λ made. Moves (machine S.program S.fed self.old)
+            clock fresh made (machine S.program S.fed self.new)) }
+        ensures acknowledged { IfOk result (λ made. IsAck made → S.done self.new.script ≡ true) }
         ensures sound { OnOk result (IsSoundTxn (S.done self.new.script) (machine S.program S.fed self.new)) }
     {
         next_move(
@@ -88,7 +91,8 @@ impl<S: Script> Txn<S> {
         requires sound { IsSoundTxn (S.done self.old.script) (machine S.program S.fed self.old) }
         requires asked { IsSome self.old.progress.asked }
         requires fits { Answers self.old.progress.course reply.now }
-        ensures after { OnOk result (machine S.program S.fed self.new ≡ after reply.now (machine S.program S.fed self.old)) }
+        ensures after { OnOk result (machine S.program S.fed self.new
+            ≡ after reply.now (machine S.program S.fed self.old)) }
         ensures sound { OnOk result (IsSoundTxn (S.done self.new.script) (machine S.program S.fed self.new)) }
     {
         let Some(range) = self.progress.asked else {

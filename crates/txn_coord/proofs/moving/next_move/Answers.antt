@@ -1,6 +1,4 @@
 use Rattle.std.proofs.Common.{◌≡◌, Some, sym, ◌∙◌}
-use Rattle.mr_base.specs.declared.ids.AttemptId.{AttemptId}
-use Rattle.mr_base.specs.declared.timestamps.Reading.{Reading}
 use Rattle.txn_coord.specs.Machine.{machine_of}
 use Rattle.txn_coord.specs.Asking.{sends}
 use Rattle.txn_coord.proofs.OkLemmas.{if_ok, on_ok}

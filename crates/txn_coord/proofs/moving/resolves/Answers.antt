@@ -1,4 +1,4 @@
-use Rattle.std.proofs.Common.{◌<◌, arith, ap, length, inl, inr}
+use Rattle.std.proofs.Common.{arith, ap, length, inl, inr}
 use Rattle.txn_coord.proofs.moving.resolves.Goals as goal
 
 -- Something was laid, so the script is done, and its writes are known.

@@ -1,4 +1,3 @@
-use Rattle.std.proofs.Common.{◌≡◌, OnOk}
 use Rattle.txn_coord.specs.Machine.{machine_of}
 use Rattle.txn_coord.proofs.OkLemmas.{on_ok}
 use Rattle.txn_coord.proofs.TakenLemmas.{abort_taken, commit_taken, push_taken, put_taken, refresh_taken}
