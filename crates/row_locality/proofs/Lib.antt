@@ -1,6 +1,11 @@
+pub mod ColumnLemmas
 pub mod DatumOrder
+pub mod EncodingLemmas
+pub mod FrontLemmas
 pub mod KeyLemmas
 pub mod KeyOrder
 pub mod OneColumnKeyLemmas
 pub mod PointLemmas
+pub mod RowLemmas
+pub mod RowSpanLemmas
 pub mod TypeLemmas

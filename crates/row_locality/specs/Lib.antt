@@ -1,3 +1,5 @@
+pub mod Decoding
+pub mod Encoding
 pub mod KeyLaws
 pub mod Keys
 pub mod OneColumnDatabases
@@ -6,6 +8,7 @@ pub mod Pairs
 pub mod Plain
 pub mod Reading
 pub mod Reshaped
+pub mod RowSpans
 pub mod Rows
 pub mod Spans
 pub mod Values

@@ -1,0 +1,24 @@
+-- What decoding a pair answers. Source: this project's profile.
+use Rattle.std.specs.Prelude.{◌≡◌, ℕ, ⊤, List, Option, Some, None, Result, Ok, Err, IsTrue, IsFalse, IsUtf8}
+use Rattle.mr_base.specs.declared.rows.Datum.{Datum}
+use Rattle.descriptors.specs.declared.table.Table.{Table}
+use Rattle.row_locality.specs.declared.decode_fault.DecodeFault.{DecodeFault}
+use Rattle.row_locality.specs.declared.decode_fault.DecodeFault.TheVariants as faults
+use Rattle.row_locality.specs.Rows.{is_by_row}
+use Rattle.row_locality.specs.Pairs.{KeyValue, IsPairOf}
+
+-- The region of a partition of a table: a text for a table that is REGIONAL BY ROW, and none for any other.
+abbrev pub IsRegionFor : Table → Option (List ℕ) → Type 0
+IsRegionFor t None = IsFalse (is_by_row t)
+IsRegionFor t (Some region) = IsTrue (is_by_row t) × IsUtf8 region
+
+-- No row that fits the table has this pair.
+abbrev pub IsOfNoRow : Table → Option (List ℕ) → KeyValue → Type 0
+IsOfNoRow t region p = (row : List Datum) → ¬ IsPairOf t region row p
+
+-- A call answers what reading gives, seen by view, and Malformed where reading gives nothing. Want of memory
+-- is free.
+abbrev pub Reads : {X Y : Type 0} → (X → Y) → Result X DecodeFault → Option Y → Type 0
+Reads view (Ok x) read = read ≡ Some (view x)
+Reads view (Err faults.Malformed) read = read ≡ None
+Reads view (Err faults.Memory) read = ⊤
