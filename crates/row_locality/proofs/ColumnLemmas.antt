@@ -64,10 +64,13 @@ int_takes : (bytes : List ℕ) (x : Datum × List ℕ) → IsBytes bytes → int
 int_takes bytes x fits e =
     let m = map_some signed (number_at w64 bytes) x (sym (int_is bytes) ∙ e) in
     let t = number_takes w64 (2 ^ 64) wide64 bytes m.0 fits m.1 in
-    let rest : m.0.1 ≡ x.1 = ap (λ (p : Datum × List ℕ). p.1) m.2 in
-    (cast_signed w64 m.0.0, ap (λ (p : Datum × List ℕ). p.0) m.2, sfits_to_z {w = w64} {n = m.0.0} (record { fits = t.1 }),
-     subst (λ (s : List ℕ). Takes bytes (to_be_bytes w64 (cast_unsigned w64 (cast_signed w64 m.0.0))) s) rest
-     (subst (λ (k : ℕ). Takes bytes (to_be_bytes w64 k) m.0.1) (sym (of_z-to_z w64 m.0.0 t.1)) t.0))
+    let rest : m.0.1 ≡ x.1 = ap (λ (p : Datum × List ℕ). p.1) m.2 in (
+      cast_signed w64 m.0.0,
+      ap (λ (p : Datum × List ℕ). p.0) m.2,
+      sfits_to_z {w = w64} {n = m.0.0} (record { fits = t.1 }),
+      subst (λ (s : List ℕ). Takes bytes (to_be_bytes w64 (cast_unsigned w64 (cast_signed w64 m.0.0))) s) rest
+          (subst (λ (k : ℕ). Takes bytes (to_be_bytes w64 k) m.0.1) (sym (of_z-to_z w64 m.0.0 t.1)) t.0),
+    )
 
 unsigned_fits : (n : ℤ) → FitsSigned w64 n → cast_unsigned w64 n < 2 ^ 64
 unsigned_fits (pos n) h = omega (arith, h)
@@ -87,9 +90,13 @@ text_takes n bytes x fits e =
     let text = passed (is_utf8 (take n bytes)) (Some (datums.Text (take n bytes), drop n bytes)) x long.1 in
     let is = same_Some (datums.Text (take n bytes), drop n bytes) x text.1 in
     let rest : drop n bytes ≡ x.1 = ap (λ (p : Datum × List ℕ). p.1) is in
-    let enough : n ≤ length bytes = ltb-false _ _ long.0 in
-    (take n bytes, ap (λ (p : Datum × List ℕ). p.0) is, omega (arith, length-take n bytes), IsUtf8-from_is_utf8 (take n bytes) text.0,
-     record { parts = rw (← rest) (sym (take-append-drop n bytes)); rest_bytes = rw (← rest) (bytes_drop n bytes fits) })
+    let enough : n ≤ length bytes = ltb-false _ _ long.0 in (
+      take n bytes,
+      ap (λ (p : Datum × List ℕ). p.0) is,
+      omega (arith, length-take n bytes),
+      IsUtf8-from_is_utf8 (take n bytes) text.0,
+      record { parts = rw (← rest) (sym (take-append-drop n bytes)); rest_bytes = rw (← rest) (bytes_drop n bytes fits) },
+    )
 
 text_again : (s rest : List ℕ) → IsUtf8 s → text_at (length s) (s ++ rest) ≡ Some (datums.Text s, rest)
 unfolding text_at

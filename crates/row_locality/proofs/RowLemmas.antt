@@ -129,9 +129,10 @@ fits_by false columns (Some region) row h parts = absurd (absurd_false h.0)
     absurd_false e = cc
 fits_by true columns (Some region) row h parts =
     let typed = all_zipped_more (λ c v. HasType c.1 v) columns parts.values region_column (datums.Text region) parts.typed h.1 in
-    let len = AllZip-long (λ c v. HasType c.1 v) columns parts.values parts.typed in
-    (subst (λ (vs : List Datum). AllZip (λ c v. HasType c.1 v) (columns ++ region_column ∷ []) vs) parts.whole typed,
-     rw (← parts.whole) (ap (option_and_then text_of) (at_end_of parts.values (datums.Text region) (length columns) len)))
+    let len = AllZip-long (λ c v. HasType c.1 v) columns parts.values parts.typed in (
+      subst (λ (vs : List Datum). AllZip (λ c v. HasType c.1 v) (columns ++ region_column ∷ []) vs) parts.whole typed,
+      rw (← parts.whole) (ap (option_and_then text_of) (at_end_of parts.values (datums.Text region) (length columns) len)),
+    )
 
 -- what is read is spelled
 pub row_takes : (t : Table) (region : Option (List ℕ)) (p : KeyValue) (row : List Datum) → IsRegionFor t region → IsBytes p.1 → row_of t region p ≡ Some row → IsPairOf t region row p

@@ -78,7 +78,12 @@ fn push_value_at(bytes: &mut Vec<u8>, row: &[Datum], place: usize) -> Result<(),
 }
 
 /// The key of a row in the index of a number, which has these columns.
-pub(crate) fn key_at(alloc: Global, number: u8, places: &[usize], row: &[Datum]) -> Result<Bytes, Memory>
+pub(crate) fn key_at(
+    alloc: Global,
+    number: u8,
+    places: &[usize],
+    row: &[Datum],
+) -> Result<Bytes, Memory>
     ensures { IfOk result (λ key. key ≡ index_key number (values_at places.now row.now)) }
 {
     let mut bytes = Vec::new(alloc);

@@ -5,7 +5,6 @@ mod decode_fault;
 mod key_laws;
 mod key_parts;
 mod one_column_rows;
-
 mod row_pairs;
 mod row_spans;
 mod row_values;

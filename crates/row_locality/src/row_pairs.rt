@@ -74,7 +74,13 @@ fn unique_pairs(alloc: Global, t: &Table, row: &[Datum]) -> Result<Vec<Pair>, Me
 }
 
 /// The pair of a row in the index of one column, which leads to the primary key.
-fn unique_pair(alloc: Global, number: u8, column: usize, row: &[Datum], primary: &Bytes) -> Result<Pair, Memory>
+fn unique_pair(
+    alloc: Global,
+    number: u8,
+    column: usize,
+    row: &[Datum],
+    primary: &Bytes,
+) -> Result<Pair, Memory>
     ensures { IfOk result (λ p. key_value p ≡ (index_key number (values_at (column ∷ []) row.now), primary.now)) }
 {
     let key = key_at(alloc, number, &[column], row)?;
