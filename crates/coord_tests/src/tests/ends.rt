@@ -3,7 +3,7 @@
 use super::replies::{Said, ts};
 use super::scripts::FaultyScript;
 use super::steps::{Step, Stop, began, run, start_with};
-use mr_base::{Kind, SqlState};
+use mr_base::{Kind, ListOf, SqlState};
 
 #[test]
 fn an_aborted_commit_resolves_and_sends_no_abort(rt: HostRuntime) -> Result<(), Stop> {
@@ -170,7 +170,7 @@ fn an_end_ends_in_each_way(rt: HostRuntime) -> Result<(), Stop> {
 #[test]
 fn a_fault_waits_for_its_read_timestamp(rt: HostRuntime) -> Result<(), Stop> {
     let alloc = rt.alloc();
-    let script = FaultyScript::new(SqlState::S42601);
+    let script = FaultyScript::new(alloc, ListOf::new(alloc), SqlState::S42601);
     let txn = start_with(alloc, Kind::Now, script)?;
     let steps = [
         (Step::Next(999, 2), "wait 1000"),
