@@ -4,7 +4,8 @@ use Rattle.mr_base.specs.declared.rows.Datum.{Datum}
 use Rattle.descriptors.specs.declared.table.Table.{Table}
 use Rattle.row_locality.specs.declared.decode_fault.DecodeFault.{DecodeFault}
 use Rattle.row_locality.specs.declared.decode_fault.DecodeFault.TheVariants as faults
-use Rattle.row_locality.specs.Rows.{is_by_row}
+use Rattle.row_locality.specs.Rows.{is_by_row, index_of}
+use Rattle.row_locality.specs.Keys.{IsKeyOf}
 use Rattle.row_locality.specs.Pairs.{KeyValue, IsPairOf}
 
 -- The region of a partition of a table: a text for a table that is REGIONAL BY ROW, and none for any other.
@@ -22,3 +23,7 @@ abbrev pub Reads : {X Y : Type 0} → (X → Y) → Result X DecodeFault → Opt
 Reads view (Ok x) read = read ≡ Some (view x)
 Reads view (Err faults.Malformed) read = read ≡ None
 Reads view (Err faults.Memory) read = ⊤
+
+-- The pair is of the index of a UNIQUE column: its key is a key of that index, and its value is a primary key.
+abbrev pub IsIndexPair : Table → ℕ → KeyValue → Type 0
+IsIndexPair t column p = IsKeyOf t (index_of t column) p.0 × IsKeyOf t 0 p.1
