@@ -20,8 +20,9 @@ use Rattle.row_locality.specs.Pairs.{KeyValue, row_pair, IsPairOf}
 use Rattle.row_locality.specs.Reading.{column_at, at_end, columns_at, region_value, if_keyed, row_of}
 use Rattle.row_locality.specs.declared.decode_fault.DecodeFault.{DecodeFault}
 use Rattle.row_locality.specs.declared.decode_fault.DecodeFault.TheVariants as faults
-use Rattle.row_locality.specs.Decoding.{IsRegionFor, IsOfNoRow, Reads}
+use Rattle.row_locality.specs.Decoding.{IsRegionFor, IsDecodeFault, Reads}
 use Rattle.row_locality.specs.ReadingLaws.{WhatIsWrittenIsRead}
+use Rattle.row_locality.specs.Reshaping.{CanReshape}
 use Rattle.row_locality.specs.Reshaped.{row_under, reshaped_row}
 use Rattle.row_locality.proofs.EncodingLemmas.{small_lengths}
 use Rattle.row_locality.proofs.ColumnLemmas.{column_takes, column_again}
@@ -184,10 +185,10 @@ row_found view (Ok x) t region p for_it bytes read = row_takes t region p (view 
 row_found view (Err f) t region p for_it bytes read = tt
 
 pub none_found : {X : Type 0} (view : X → List Datum) (r : Result X DecodeFault) (t : Table) (region : Option (List ℕ)) (p : KeyValue) → Reads view r (row_of t region p)
-    → IfErr r (λ f. f ≡ faults.Malformed → IsOfNoRow t region p)
+    → IfErr r (IsDecodeFault t region p)
 none_found view (Ok x) t region p read = tt
-none_found view (Err faults.Malformed) t region p read = λ is row of_it. none-some row (sym read ∙ row_again t region p row of_it)
-none_found view (Err faults.Memory) t region p read = λ is. absurd cc
+none_found view (Err faults.Malformed) t region p read = λ row of_it. none-some row (sym read ∙ row_again t region p row of_it)
+none_found view (Err faults.Memory) t region p read = tt
 
 -- ---- rows under another locality
 
@@ -202,8 +203,8 @@ reshaped_fits true false columns primary row utf8 fits =
     subst (λ (vs : List Datum). AllZip (λ c v. HasType c.1 v) columns vs) (sym (taken columns (Some l.text) row parts)) l.typed
 
 pub reshaped_row_fits : (old new : Table) (primary : List ℕ) (row : List Datum) (r : Result (List Datum) Memory) → IfOk r (λ x. x ≡ reshaped_row old new primary row)
-    → Fits old row → new.columns ≡ old.columns → IsUtf8 primary → IfOk r (Fits new)
-reshaped_row_fits old new primary row r is fits same utf8 =
-    let f : Fits new (reshaped_row old new primary row) = subst (λ (cs : Columns). AllZip (λ c v. HasType c.1 v) (cond (is_by_row new) (cs ++ region_column ∷ []) cs) (reshaped_row old new primary row)) (sym same)
-    (reshaped_fits (is_by_row old) (is_by_row new) old.columns primary row utf8 fits) in
+    → CanReshape old new primary row → IfOk r (Fits new)
+reshaped_row_fits old new primary row r is can =
+    let f : Fits new (reshaped_row old new primary row) = subst (λ (cs : Columns). AllZip (λ c v. HasType c.1 v) (cond (is_by_row new) (cs ++ region_column ∷ []) cs) (reshaped_row old new primary row)) (sym can.same_columns)
+    (reshaped_fits (is_by_row old) (is_by_row new) old.columns primary row can.is_text can.fits) in
     IfOk-weaker r (λ x. x ≡ reshaped_row old new primary row) (Fits new) (λ x e. subst (Fits new) (sym e) f) is

@@ -10,6 +10,7 @@ pub mod Plain
 pub mod Reading
 pub mod ReadingLaws
 pub mod Reshaped
+pub mod Reshaping
 pub mod RowSpans
 pub mod Rows
 pub mod Spans

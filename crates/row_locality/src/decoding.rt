@@ -1,14 +1,12 @@
 //! Pairs as rows, and as what leads to rows.
 
 ghost use Rattle.std.specs.Prelude.{◌≡◌, ◌++◌, Contains, IfOk, IfErr, OnOk};
-ghost use Rattle.std.specs.Option.{option_copied, option_map};
+ghost use Rattle.std.specs.Option.{option_copied};
 ghost use Rattle.descriptors.specs.Sound.{IsSoundTable};
-ghost use Rattle.row_locality.specs.declared.decode_fault.DecodeFault.TheVariants as faults;
-ghost use Rattle.row_locality.specs.Rows.{index_of};
 ghost use Rattle.row_locality.specs.Pairs.{key_value, IsPairOf};
-ghost use Rattle.row_locality.specs.Reading.{region_value, row_of, primary_of};
+ghost use Rattle.row_locality.specs.Reading.{region_value, row_of};
 ghost use Rattle.row_locality.specs.Spans.{point_of};
-ghost use Rattle.row_locality.specs.Decoding.{IsRegionFor, IsOfNoRow, IsIndexPair, Reads};
+ghost use Rattle.row_locality.specs.Decoding.{IsRegionFor, IsDecodeFault, IsIndexPair, IsIndexFault, Reads, point_named};
 
 use crate::decode_fault::DecodeFault;
 use crate::key_parts::key_at;
@@ -66,7 +64,7 @@ fn row_of_bytes(
 ) -> Result<Vec<Datum>, DecodeFault>
     requires { IsRegionFor t.now (option_copied region) }
     ensures row { IfOk result (λ row. IsPairOf t.now (option_copied region.entry) row.items (key.now, value.now)) }
-    ensures malformed { IfErr result (λ f. f ≡ faults.Malformed → IsOfNoRow t.now (option_copied region.entry) (key.now, value.now)) }
+    ensures fault { IfErr result (IsDecodeFault t.now (option_copied region.entry) (key.now, value.now)) }
     ensures read { Reads (λ row. row.items) result (row_of t.now (option_copied region.entry) (key.now, value.now)) }
 {
     row_at(alloc, t, key, value, region)
@@ -78,7 +76,7 @@ fn row_of_bytes(
 pub fn decode(alloc: Global, t: &Table, p: &Pair, region: Option<&[u8]>) -> Result<Row, DecodeFault>
     requires { IsRegionFor t.now (option_copied region) }
     ensures row { IfOk result (λ row. IsPairOf t.now (option_copied region.entry) row (key_value p.now)) }
-    ensures malformed { IfErr result (λ f. f ≡ faults.Malformed → IsOfNoRow t.now (option_copied region.entry) (key_value p.now)) }
+    ensures fault { IfErr result (IsDecodeFault t.now (option_copied region.entry) (key_value p.now)) }
     ensures read { Reads (λ row. row) result (row_of t.now (option_copied region.entry) (key_value p.now)) }
 {
     let row = row_of_bytes(alloc, t, p.key.as_slice(), p.value.as_slice(), region)?;
@@ -93,8 +91,8 @@ pub fn primary_of(alloc: Global, t: &Table, column: usize, p: &Pair) -> Result<S
     requires column { Contains t.now.unique column }
     ensures span { IfOk result (λ s. s ≡ point_of p.now.value) }
     ensures keys { OnOk result (IsIndexPair t.now column (key_value p.now)) }
-    ensures malformed { IfErr result (λ f. f ≡ faults.Malformed → ¬ IsIndexPair t.now column (key_value p.now)) }
-    ensures read { Reads (λ s. s) result (option_map point_of (primary_of t.now (index_of t.now column) (key_value p.now))) }
+    ensures fault { IfErr result (IsIndexFault t.now column (key_value p.now)) }
+    ensures read { Reads (λ s. s) result (point_named t.now column (key_value p.now)) }
 {
     primary_at(alloc, t, column, p.key.as_slice(), p.value.as_slice())
 }
@@ -110,8 +108,8 @@ fn primary_at(
     requires column { Contains t.now.unique column }
     ensures span { IfOk result (λ s. s ≡ point_of value.now) }
     ensures keys { OnOk result (IsIndexPair t.now column (key.now, value.now)) }
-    ensures malformed { IfErr result (λ f. f ≡ faults.Malformed → ¬ IsIndexPair t.now column (key.now, value.now)) }
-    ensures read { Reads (λ s. s) result (option_map point_of (primary_of t.now (index_of t.now column) (key.now, value.now))) }
+    ensures fault { IfErr result (IsIndexFault t.now column (key.now, value.now)) }
+    ensures read { Reads (λ s. s) result (point_named t.now column (key.now, value.now)) }
 {
     if !is_key(alloc, t, index_of(t, column), &[column], key)? {
         return Err(DecodeFault::Malformed);

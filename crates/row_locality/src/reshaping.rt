@@ -1,8 +1,9 @@
 //! Rows under another locality of their table.
 
-ghost use Rattle.std.specs.Prelude.{◌≡◌, IfOk, IsUtf8};
+ghost use Rattle.std.specs.Prelude.{◌≡◌, IfOk};
 ghost use Rattle.row_locality.specs.Rows.{Fits, is_by_row};
 ghost use Rattle.row_locality.specs.Reshaped.{reshaped_row};
+ghost use Rattle.row_locality.specs.Reshaping.{CanReshape};
 
 use crate::row_values::declared;
 use descriptors::Table;
@@ -31,7 +32,7 @@ pub fn reshape(
     primary: &[u8],
 ) -> Result<Row, Memory>
     ensures row { IfOk result (λ r. r ≡ reshaped_row old.now new.now primary.now row.now) }
-    ensures fits { Fits old.now row.now → new.now.columns ≡ old.now.columns → IsUtf8 primary.now → IfOk result (Fits new.now) }
+    ensures fits { CanReshape old.now new.now primary.now row.now → IfOk result (Fits new.now) }
 {
     reshaped(alloc, old, new, row, primary)
 }

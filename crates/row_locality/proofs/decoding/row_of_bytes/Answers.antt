@@ -9,5 +9,5 @@ pub returns-clause-row : goal.returns-clause-row
 returns-clause-row c =
     row_found (λ (row : Vec Datum). row.items) c.row_at.result c.args.t.now (option_copied c.args.region) (c.args.key.now, c.args.value.now) c.requires (λ i. omega (arith, c.type_inv.value i)) c.row_at.ensures
 
-pub returns-clause-malformed : goal.returns-clause-malformed
-returns-clause-malformed c = none_found (λ (row : Vec Datum). row.items) c.row_at.result c.args.t.now (option_copied c.args.region) (c.args.key.now, c.args.value.now) c.row_at.ensures
+pub returns-clause-fault : goal.returns-clause-fault
+returns-clause-fault c = none_found (λ (row : Vec Datum). row.items) c.row_at.result c.args.t.now (option_copied c.args.region) (c.args.key.now, c.args.value.now) c.row_at.ensures
