@@ -1,18 +1,18 @@
 -- Steps of the loops that write rows.
-use Rattle.std.proofs.Common.{◌≡◌, ℕ, suc, ◌+◌, ◌^◌, ◌<◌, ◌≤◌, Bool, true, false, List, [], ◌∷◌, ◌++◌, length, map, take, drop, get_or, All, refl, sym, ap, ◌∙◌, arith, append_assoc, leb}
-use Rattle.std.specs.Prelude.{flat_map, filter_map, slice_get, AllPairs}
+use Rattle.std.proofs.Common.{◌≡◌, ℕ, suc, ◌+◌, ◌<◌, ◌≤◌, true, false, List, [], ◌∷◌, ◌++◌, length, map, take, drop, get_or, All, sym, ap, ◌∙◌, arith, append_assoc, leb}
+use Rattle.std.specs.Prelude.{flat_map, slice_get, AllPairs}
 use Rattle.std.specs.List.{AllByRecursion, enumerate_from}
 use Rattle.std.proofs.lemmas.Bool.Decides.{nat_tests}
-use Rattle.std.proofs.lemmas.List.{append-nil, take_more, drop_more, take-append-drop, length-append}
+use Rattle.std.proofs.lemmas.List.{take_more, drop_more, take-append-drop, length-append}
 use Rattle.std.proofs.lemmas.List.Concat.{flat_map-append}
 use Rattle.std.proofs.lemmas.List.Elements.{All-from_recursion, recursion_from_All, filter_map-append}
 use Rattle.mr_base.specs.declared.rows.Datum.{Datum}
 use Rattle.mr_base.specs.declared.rows.Datum.TheVariants as datums
 use Rattle.descriptors.specs.declared.table.Table.{Table}
 use Rattle.descriptors.specs.Sound.{IsSoundTable}
-use Rattle.row_locality.specs.Rows.{values_at, unique_indexes}
+use Rattle.row_locality.specs.Rows.{values_at}
 use Rattle.row_locality.specs.Keys.{key_part, index_key, primary_key}
-use Rattle.row_locality.specs.Pairs.{KeyValue, index_pairs}
+use Rattle.row_locality.specs.Pairs.{KeyValue}
 use Rattle.row_locality.specs.Values.{value_part, HasLength}
 
 -- ---- keys

@@ -1,5 +1,5 @@
 -- Reading from the front: what is read stands there, and the rest follows.
-use Rattle.std.proofs.Common.{◌≡◌, ℕ, suc, ◌+◌, ◌^◌, ◌<◌, ◌≤◌, ◌⊎◌, Bool, true, false, cond, ltb, eqb, List, [], ◌∷◌, ◌++◌, length, get_or, take, drop, Option, Some, None, refl, sym, ap, subst, ◌∙◌, append_assoc, arith, inl, inr}
+use Rattle.std.proofs.Common.{◌≡◌, ℕ, suc, ◌+◌, ◌^◌, ◌<◌, ◌≤◌, ◌⊎◌, Bool, true, false, cond, ltb, List, ◌∷◌, ◌++◌, length, get_or, take, drop, All, Option, Some, None, refl, sym, ap, ◌∙◌, append_assoc, arith, inl, inr}
 use Rattle.std.specs.Prelude.{option_and_then, option_map}
 use Rattle.std.specs.Int.{Width, w32, w64, byte_len, from_be_bytes, to_be_bytes}
 use Rattle.std.proofs.lemmas.Bool.{cases_lt, ltb-false, le-ltb}
@@ -24,6 +24,16 @@ bytes_take n bytes h i =
 
 pub bytes_rest : (b : ℕ) (bytes : List ℕ) → IsBytes (b ∷ bytes) → IsBytes bytes
 bytes_rest b bytes h i = h (suc i)
+
+pub bytes_behind : (front rest : List ℕ) → IsBytes (front ++ rest) → IsBytes rest
+bytes_behind front rest h i = rw (← get_or-append-add front rest i 0) (h (length front + i))
+
+pub bytes_from_all : (bytes : List ℕ) → All (λ b. b < 256) bytes → IsBytes bytes
+bytes_from_all bytes h i =
+    elim (cases_lt i (length bytes)) [
+      | inl lt ↦ h i 0 lt
+      | inr le ↦ rw (get_or_past bytes i 0 le) (omega arith)
+    ]
 
 -- ---- tests that passed
 

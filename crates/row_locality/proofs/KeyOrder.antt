@@ -96,13 +96,13 @@ int_order m n a b p q =
 
 -- ---- STRING
 
-abbrev text_bytes : List ℕ → List ℕ
+abbrev pub text_bytes : List ℕ → List ℕ
 text_bytes s = flat_map escaped_byte s ++ 0 ∷ 1 ∷ []
 
-not_zero : (x : ℕ) → x ≢ 0 → eqb x 0 ≡ false
+pub not_zero : (x : ℕ) → x ≢ 0 → eqb x 0 ≡ false
 not_zero x h = grind (arith, nat_tests)
 
-plain_byte : (x : ℕ) (xs a : List ℕ) → x ≢ 0 → text_bytes (x ∷ xs) ++ a ≡ x ∷ (text_bytes xs ++ a)
+pub plain_byte : (x : ℕ) (xs a : List ℕ) → x ≢ 0 → text_bytes (x ∷ xs) ++ a ≡ x ∷ (text_bytes xs ++ a)
 plain_byte x xs a h = rw (not_zero x h) refl
 
 text_order : (r s a b : List ℕ) → bytes_cmp (text_bytes r ++ a) (text_bytes s ++ b) ≡ ordering_then (slice_cmp nat_cmp r s) (bytes_cmp a b)

@@ -4,8 +4,11 @@ pub mod EncodingLemmas
 pub mod FrontLemmas
 pub mod KeyLemmas
 pub mod KeyOrder
+pub mod KeyPartLemmas
+pub mod KeyReadingSteps
 pub mod OneColumnKeyLemmas
 pub mod PointLemmas
+pub mod ReadingSteps
 pub mod RowLemmas
 pub mod RowSpanLemmas
 pub mod TypeLemmas

@@ -1,25 +1,32 @@
 -- A row that is read from a pair is the one that was written, and what was written is read again.
-use Rattle.std.proofs.Common.{◌≡◌, ℕ, ◌<◌, ◌≤◌, Bool, true, false, cond, List, [], ◌∷◌, ◌++◌, length, take, All, Option, Some, None, refl, sym, ap, ap₂, subst, ◌∙◌, append_assoc, arith}
-use Rattle.std.specs.Prelude.{flat_map, option_and_then, option_map, IsUtf8, IsTrue, IsFalse, slice_get, bytes_eq}
+use Rattle.std.proofs.Common.{◌≡◌, ℕ, Bool, true, false, cond, List, [], ◌∷◌, ◌++◌, length, take, All, Option, Some, None, Result, Ok, Err, refl, sym, ap, ap₂, subst, ◌∙◌, append_assoc}
+use Rattle.std.specs.Prelude.{flat_map, option_and_then, IsUtf8, IsTrue, IsFalse, IfOk, IfErr, slice_get, bytes_eq}
 use Rattle.std.specs.Cmp.Lexicographic.{bytes_decides}
 use Rattle.std.specs.List.{AllZip, AllByRecursion}
-use Rattle.std.proofs.lemmas.List.{append-nil, take_at, take_all, append_cancel_left}
+use Rattle.std.proofs.lemmas.List.{append-nil, take_at}
 use Rattle.std.proofs.lemmas.List.Elements.{All-from_recursion, recursion_from_All}
 use Rattle.std.proofs.lemmas.Slice.Zip.{all_zipped_more, AllZip-long}
-use Rattle.std.proofs.lemmas.Option.{same_Some}
+use Rattle.std.proofs.lemmas.Option.{same_Some, none-some}
+use Rattle.std.proofs.lemmas.Result.{IfOk-weaker}
+use Rattle.mr_base.specs.declared.memory.Memory.{Memory}
 use Rattle.mr_base.specs.declared.rows.Datum.{Datum}
 use Rattle.mr_base.specs.declared.rows.Datum.TheVariants as datums
 use Rattle.region_sql.specs.declared.region_statements.ColumnType.{ColumnType}
-use Rattle.region_sql.specs.declared.region_statements.ColumnType.TheVariants as types
 use Rattle.descriptors.specs.declared.table.Table.{Table}
-use Rattle.row_locality.specs.Rows.{HasType, Fits, is_by_row, region_column, all_columns, text_of, region_of}
+use Rattle.row_locality.specs.Rows.{HasType, Fits, is_by_row, region_column, text_of, region_of}
 use Rattle.row_locality.specs.Keys.{primary_key}
 use Rattle.row_locality.specs.Values.{value_part, value_of, HasLength}
 use Rattle.row_locality.specs.Pairs.{KeyValue, row_pair, IsPairOf}
 use Rattle.row_locality.specs.Reading.{column_at, at_end, columns_at, region_value, if_keyed, row_of}
-use Rattle.row_locality.specs.Decoding.{IsRegionFor}
-use Rattle.row_locality.proofs.ColumnLemmas.{TakesColumn, column_takes, column_again}
-use Rattle.row_locality.proofs.FrontLemmas.{IsBytes, passed, bind_some, Takes}
+use Rattle.row_locality.specs.declared.decode_fault.DecodeFault.{DecodeFault}
+use Rattle.row_locality.specs.declared.decode_fault.DecodeFault.TheVariants as faults
+use Rattle.row_locality.specs.Decoding.{IsRegionFor, IsDecodeFault, Reads}
+use Rattle.row_locality.specs.ReadingLaws.{WhatIsWrittenIsRead}
+use Rattle.row_locality.specs.Reshaping.{CanReshape}
+use Rattle.row_locality.specs.Reshaped.{row_under, reshaped_row}
+use Rattle.row_locality.proofs.EncodingLemmas.{small_lengths}
+use Rattle.row_locality.proofs.ColumnLemmas.{column_takes, column_again}
+use Rattle.row_locality.proofs.FrontLemmas.{IsBytes, passed, bind_some}
 
 abbrev Columns : Type 0
 Columns = List (List ℕ × ColumnType)
@@ -34,7 +41,7 @@ pub record AreColumns (columns : Columns) (before : List Datum) (bytes : List �
   pub lengths_fit : AllByRecursion HasLength values
   pub spelled : bytes ≡ flat_map value_part values
 
-ended : {X : Type 0} (x y : X) (bytes : List ℕ) → at_end x bytes ≡ Some y → (bytes ≡ []) × (x ≡ y)
+pub ended : {X : Type 0} (x y : X) (bytes : List ℕ) → at_end x bytes ≡ Some y → (bytes ≡ []) × (x ≡ y)
 ended x y [] e = (refl, same_Some x y e)
 ended x y (b ∷ bytes) e = absurd cc
 
@@ -164,3 +171,40 @@ row_again t region p row of_it =
     let same : bytes_eq (primary_key t row) (primary_key t row) ≡ true = (bytes_decides (primary_key t row) (primary_key t row)).1 refl in
     let keyed : if_keyed t (primary_key t row) (parts.values ++ region_value region) ≡ Some row = ap (if_keyed t (primary_key t row)) parts.whole ∙ ap (λ (b : Bool). cond b (Some row) None) same in
     ap (row_of t region) of_it.pair ∙ ap (option_and_then (λ (values : List Datum). if_keyed t (primary_key t row) (values ++ region_value region))) read ∙ keyed
+
+-- a row that may be written has a pair
+pub written_again : WhatIsWrittenIsRead
+written_again t row fits small =
+    row_again t (region_of t row) (row_pair t row) row (record { fits = fits; lives = refl; lengths = small_lengths (take (length t.columns) row) (sym small); pair = refl })
+
+-- ---- what a reader's answer says of the pair
+
+pub row_found : {X : Type 0} (view : X → List Datum) (r : Result X DecodeFault) (t : Table) (region : Option (List ℕ)) (p : KeyValue) → IsRegionFor t region → IsBytes p.1 → Reads view r (row_of t region p)
+    → IfOk r (λ x. IsPairOf t region (view x) p)
+row_found view (Ok x) t region p for_it bytes read = row_takes t region p (view x) for_it bytes read
+row_found view (Err f) t region p for_it bytes read = tt
+
+pub none_found : {X : Type 0} (view : X → List Datum) (r : Result X DecodeFault) (t : Table) (region : Option (List ℕ)) (p : KeyValue) → Reads view r (row_of t region p)
+    → IfErr r (IsDecodeFault t region p)
+none_found view (Ok x) t region p read = tt
+none_found view (Err faults.Malformed) t region p read = λ row of_it. none-some row (sym read ∙ row_again t region p row of_it)
+none_found view (Err faults.Memory) t region p read = tt
+
+-- ---- rows under another locality
+
+pub reshaped_fits : (was is : Bool) (columns : Columns) (primary : List ℕ) (row : List Datum) → IsUtf8 primary → AllZip (λ c v. HasType c.1 v) (cond was (columns ++ region_column ∷ []) columns) row
+    → AllZip (λ c v. HasType c.1 v) (cond is (columns ++ region_column ∷ []) columns) (row_under was is (length columns) primary row)
+reshaped_fits false false columns primary row utf8 fits = fits
+reshaped_fits true true columns primary row utf8 fits = fits
+reshaped_fits false true columns primary row utf8 fits = all_zipped_more (λ c v. HasType c.1 v) columns row region_column (datums.Text primary) fits utf8
+reshaped_fits true false columns primary row utf8 fits =
+    let l = last_text columns row fits in
+    let parts : AreParts columns (Some l.text) row = record { values = l.values; typed = l.typed; whole = l.whole } in
+    subst (λ (vs : List Datum). AllZip (λ c v. HasType c.1 v) columns vs) (sym (taken columns (Some l.text) row parts)) l.typed
+
+pub reshaped_row_fits : (old new : Table) (primary : List ℕ) (row : List Datum) (r : Result (List Datum) Memory) → IfOk r (λ x. x ≡ reshaped_row old new primary row)
+    → CanReshape old new primary row → IfOk r (Fits new)
+reshaped_row_fits old new primary row r is can =
+    let f : Fits new (reshaped_row old new primary row) = subst (λ (cs : Columns). AllZip (λ c v. HasType c.1 v) (cond (is_by_row new) (cs ++ region_column ∷ []) cs) (reshaped_row old new primary row)) (sym can.same_columns)
+    (reshaped_fits (is_by_row old) (is_by_row new) old.columns primary row can.is_text can.fits) in
+    IfOk-weaker r (λ x. x ≡ reshaped_row old new primary row) (Fits new) (λ x e. subst (Fits new) (sym e) f) is

@@ -11,7 +11,7 @@ use Rattle.mr_base.specs.declared.spans.Span.{Span}
 use Rattle.region_sql.specs.declared.region_statements.ColumnType.{ColumnType}
 use Rattle.descriptors.specs.declared.table.Table.{Table}
 use Rattle.descriptors.specs.Sound.{IsSoundTable}
-use Rattle.row_locality.specs.Rows.{HasType, Fits, index_of, values_at, key_of}
+use Rattle.row_locality.specs.Rows.{HasType, index_of, values_at, key_of}
 use Rattle.row_locality.specs.Keys.{index_key, index_types, types_at}
 use Rattle.row_locality.specs.Spans.{point_of, is_in}
 use Rattle.row_locality.specs.RowSpans.{HoldsRowsWithKey, HoldsRowsWithValue}

@@ -1,13 +1,16 @@
 pub mod Decoding
 pub mod Encoding
 pub mod KeyLaws
+pub mod KeyPieces
 pub mod Keys
 pub mod OneColumnDatabases
 pub mod OneColumnRows
 pub mod Pairs
 pub mod Plain
 pub mod Reading
+pub mod ReadingLaws
 pub mod Reshaped
+pub mod Reshaping
 pub mod RowSpans
 pub mod Rows
 pub mod Spans

@@ -1,6 +1,5 @@
-use Rattle.std.proofs.Common.{◌≡◌, List, ◌∷◌, [], ◌∙◌, ap, ap₂, subst}
+use Rattle.std.proofs.Common.{◌≡◌, ◌∙◌, ap₂, subst}
 use Rattle.std.specs.Prelude.{IfOk}
-use Rattle.mr_base.specs.declared.rows.Datum.{Datum}
 use Rattle.row_locality.specs.Keys.{index_key}
 use Rattle.row_locality.specs.Spans.{point_of}
 use Rattle.row_locality.proofs.EncodingLemmas.{few_unique}
