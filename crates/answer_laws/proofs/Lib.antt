@@ -1,0 +1,13 @@
+pub mod Evaluations
+pub mod KeepsValid
+pub mod LawsOfNeeds
+pub mod Lists
+pub mod Members
+pub mod NearFirst
+pub mod NearSearches
+pub mod NeededSpans
+pub mod Pairwise
+pub mod RowOrder
+pub mod Searches
+pub mod Statements
+pub mod Twins

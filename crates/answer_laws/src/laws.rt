@@ -1,0 +1,52 @@
+//! The laws of lists of statements. Each is the contract of a function that does nothing.
+
+ghost use Rattle.sql_eval.specs.Laws.{
+  StaysGiven,
+  StaysFaulty,
+  FedIsKnown,
+  AnswersBringNearer,
+  NeedsAreCounted,
+  KnownIsNotNeeded,
+  NeedsAreOfTheTables,
+  NearComesFirst,
+};
+
+/// What a list gives stays, whatever more is known.
+pub fn stays_given()
+    ensures { StaysGiven }
+{}
+
+/// A fault stays, whatever more is known.
+pub fn stays_faulty()
+    ensures { StaysFaulty }
+{}
+
+/// What is fed besides is known besides.
+pub fn fed_is_known()
+    ensures { FedIsKnown }
+{}
+
+/// Each answer leaves fewer phases, or as many and fewer spans in the present one.
+pub fn answers_bring_nearer()
+    ensures { AnswersBringNearer }
+{}
+
+/// Where a span is needed, phases or spans are still to come.
+pub fn needs_are_counted()
+    ensures { NeedsAreCounted }
+{}
+
+/// What is known isn't needed again.
+pub fn known_is_not_needed()
+    ensures { KnownIsNotNeeded }
+{}
+
+/// Each span that a list needs is in a range of one of its tables.
+pub fn needs_are_of_the_tables()
+    ensures { NeedsAreOfTheTables }
+{}
+
+/// A search by an index needs a span of another partition only after the near one held no pair of its key.
+pub fn near_comes_first()
+    ensures { NearComesFirst }
+{}
