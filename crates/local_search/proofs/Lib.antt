@@ -1,0 +1,4 @@
+pub mod Choices
+pub mod FullSearches
+pub mod OrderLemmas
+pub mod SearchLemmas
