@@ -1,6 +1,6 @@
 -- What holds of evaluations, and how it passes on to what follows them.
-use Rattle.std.proofs.Common.{◌≡◌, ℕ, ◌+◌, ◌<◌, ◌≤◌, Bool, true, false, cond, refl, sym, ap, subst, inl, inr, arith}
-use Rattle.std.specs.Prelude.{⊤, Option, Some, None, Result, Ok, Err, ◌⊎◌, List}
+use Rattle.std.proofs.Common.{◌≡◌, ℕ, ◌+◌, ◌<◌, ◌≤◌, refl, sym, ap, subst, inl, inr, arith}
+use Rattle.std.specs.Prelude.{⊤, Some, Result, Ok, Err, List}
 use Rattle.mr_base.specs.Scripts.{IsNearer}
 use Rattle.mr_base.specs.declared.spans.Ask.{Ask}
 use Rattle.mr_base.specs.declared.states.SqlState.{SqlState}

@@ -1,21 +1,18 @@
 -- Executing statements keeps a database valid, where each row that they make is one that its table may hold.
-use Rattle.std.proofs.Common.{◌≡◌, ℕ, zero, suc, ◌+◌, ◌<◌, ◌≤◌, Bool, true, false, cond, List, [], ◌∷◌, ◌++◌, length, refl, sym, ap, ◌∙◌, subst, inl, inr, arith}
-use Rattle.std.specs.Prelude.{⊤, ◌⊎◌, ◌==◌, not, if◌then◌else◌, filter, slice_get, Option, Some, None, option_map, option_and_then, Result, Ok, Err}
+use Rattle.std.proofs.Common.{◌≡◌, ℕ, zero, suc, ◌<◌, ◌≤◌, Bool, true, false, List, [], ◌∷◌, ◌++◌, length, refl, sym, ap, ◌∙◌, subst, arith}
+use Rattle.std.specs.Prelude.{◌==◌, not, if◌then◌else◌, filter, slice_get, Option, Some, None, option_map, option_and_then, Result, Ok, Err}
 use Rattle.std.specs.List.{AllByRecursion}
-use Rattle.std.specs.Option.{option_map_or}
-use Rattle.std.proofs.lemmas.Bool.{eqb-true, eqb-false, cases_Bool}
+use Rattle.std.proofs.lemmas.Bool.{eqb-true}
 use Rattle.std.proofs.lemmas.List.Elements.{recursion_from_All}
 use Rattle.mr_base.specs.declared.results.StatementResult.{StatementResult}
-use Rattle.mr_base.specs.declared.rows.Datum.{Datum}
 use Rattle.mr_base.specs.declared.states.SqlState.{SqlState}
-use Rattle.mr_base.specs.declared.states.SqlState.TheVariants.{S23505, S42P01}
+use Rattle.mr_base.specs.declared.states.SqlState.TheVariants.{S23505}
 use Rattle.region_sql.specs.declared.row_statements.RowStatement.{RowStatement}
 use Rattle.region_sql.specs.declared.row_statements.RowStatement.TheVariants.{Insert, Select, Update, Delete}
 use Rattle.descriptors.specs.Contents.{Contents}
 use Rattle.descriptors.specs.declared.table.Table.{Table}
 use Rattle.row_locality.specs.Plain.{PlainDatabase, IsValid, AreRowsOf, IsRowOf, database_of}
-use Rattle.sql_eval.specs.Execution.{Named, named_table, table_name, place_named, with_database, rows_in_order, table_rows, on_rows, with_rows, unless, on_table, exec_statement, exec_list}
-use Rattle.sql_eval.specs.Faults.{check_fault}
+use Rattle.sql_eval.specs.Execution.{Named, named_table, place_named, with_database, rows_in_order, table_rows, on_rows, with_rows}
 use Rattle.sql_eval.specs.RowWords.{◌>>=◌, matches, default_region, made_rows, changed_rows, has_twins}
 use Rattle.answer_laws.proofs.Lists.{each_append}
 use Rattle.answer_laws.proofs.Lists.{each_filter}

@@ -1,7 +1,6 @@
 -- The laws on what is known and what is needed.
-use Rattle.std.proofs.Common.{◌≡◌, ℕ, zero, suc, ◌+◌, ◌<◌, Bool, true, false, cond, List, [], ◌∷◌, ◌++◌, length, refl, sym, ap, ◌∙◌, subst, inl, inr, arith}
-use Rattle.std.specs.Prelude.{⊤, find, ◌==◌, Option, Some, None, option_map, Result, Ok, Err, Any, Contains, IsSomeAnd, IsOkAnd}
-use Rattle.std.specs.List.{AllByRecursion}
+use Rattle.std.proofs.Common.{◌≡◌, ℕ, zero, suc, ◌<◌, Bool, true, false, cond, List, [], ◌∷◌, ◌++◌, refl, sym, ap, subst, inl, inr, arith}
+use Rattle.std.specs.Prelude.{find, ◌==◌, Option, Some, None, option_map, Ok, Any, Contains, IsSomeAnd}
 use Rattle.std.proofs.lemmas.Bool.Decides.{nat_tests}
 use Rattle.std.proofs.lemmas.List.Elements.{recursion_from_All, All-contains_itself}
 use Rattle.mr_base.specs.Scripts.{IsNearer, fed_with}
@@ -12,13 +11,12 @@ use Rattle.mr_base.proofs.SpanLemmas.{not_below_itself}
 use Rattle.region_sql.specs.declared.row_statements.RowStatement.{RowStatement}
 use Rattle.row_locality.specs.Pairs.{KeyValue}
 use Rattle.row_locality.specs.Plain.{Partition}
-use Rattle.row_locality.specs.Spans.{is_inside}
 use Rattle.row_locality.proofs.PointLemmas.{is_inside_decides}
 use Rattle.sql_eval.specs.Evaluation.{ListOutcome, Setting, evaluation, partitions_of}
 use Rattle.sql_eval.specs.Execution.{Named, named_table, table_name}
 use Rattle.sql_eval.specs.Laws.{StaysGiven, StaysFaulty, FedIsKnown, AnswersBringNearer, NeedsAreCounted, KnownIsNotNeeded, NeedsAreOfTheTables, IsRangeOfList}
 use Rattle.sql_eval.specs.NextSpan.{next_in, phases_in, asks_in}
-use Rattle.sql_eval.specs.Reads.{Reads, IsPartOf, covers, rows_within, served_reads}
+use Rattle.sql_eval.specs.Reads.{Reads, covers, rows_within, served_reads}
 use Rattle.sql_eval.specs.Search.{Evaluation, gives, faults, needs}
 use Rattle.answer_laws.proofs.Evaluations.{IsLower, IsKept, Needs}
 use Rattle.answer_laws.proofs.Lists.{each, each_weaker}
@@ -130,7 +128,7 @@ any_of P xs x c p = (c.0, x, c.1, c.2, p)
 abbrev IsOfTables : Setting → Ask → ℕ → Type 0
 IsOfTables s ask n = IsRangeOfList s ask.range
 
-of_list : (s : Setting) (list : List RowStatement) (x : RowStatement) (n : Named) (p : Partition) → s.list ≡ Ok list → Contains list x
+pub of_list : (s : Setting) (list : List RowStatement) (x : RowStatement) (n : Named) (p : Partition) → s.list ≡ Ok list → Contains list x
     → named_table s.layout.catalog (table_name x) ≡ Some n → Contains (partitions_of s.layout n) p → IsRangeOfList s p.range
 of_list s list x n p e c f d =
     rw e

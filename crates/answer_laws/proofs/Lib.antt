@@ -1,3 +1,4 @@
+pub mod AgreeingReads
 pub mod Evaluations
 pub mod KeepsValid
 pub mod LawsOfNeeds
@@ -7,7 +8,9 @@ pub mod NearFirst
 pub mod NearSearches
 pub mod NeededSpans
 pub mod Pairwise
+pub mod PutAll
 pub mod RowOrder
 pub mod Searches
 pub mod Statements
 pub mod Twins
+pub mod WrittenRanges

@@ -1,23 +1,16 @@
 -- A search by an index goes to the near partition first.
-use Rattle.std.proofs.Common.{◌≡◌, ℕ, zero, suc, ◌+◌, ◌*◌, ◌<◌, Bool, true, false, cond, List, [], ◌∷◌, ◌++◌, length, refl, sym, ap, ◌∙◌, subst, inl, inr, arith}
-use Rattle.std.specs.Prelude.{⊤, ◌⊎◌, ◌≢◌, ◌==◌, not, if◌then◌else◌, filter, map, AllPairs, Contains, Option, Some, None, option_map, option_and_then, Result, Ok, Err}
-use Rattle.std.specs.FinMap.Entries.{where_key}
+use Rattle.std.proofs.Common.{◌≡◌, ℕ, ◌+◌, Bool, true, false, List, [], ◌∷◌, ◌++◌, refl, sym, ap, ◌∙◌, subst, inl, inr, arith}
+use Rattle.std.specs.Prelude.{◌≢◌, not, if◌then◌else◌, filter, map, Contains, Option, Some, None}
 use Rattle.std.specs.List.{AllByRecursion, enumerate_from}
 use Rattle.std.specs.Option.{option_map_or}
 use Rattle.std.specs.Str.{bytes_eq}
 use Rattle.std.proofs.lemmas.List.Elements.{recursion_from_All}
 use Rattle.std.proofs.lemmas.Slice.Eq.{bytes_eq-Decides}
-use Rattle.mr_base.specs.declared.rows.Datum.{Datum}
-use Rattle.mr_base.specs.declared.script.Fed.{Fed}
-use Rattle.mr_base.specs.declared.spans.Ask.{Ask}
-use Rattle.region_sql.specs.declared.row_statements.RowStatement.{RowStatement}
-use Rattle.region_sql.specs.declared.row_statements.Term.{Term}
 use Rattle.descriptors.specs.declared.database.Database.{Database}
 use Rattle.descriptors.specs.declared.table.Table.{Table}
-use Rattle.descriptors.specs.Contents.{Contents, database_named}
+use Rattle.descriptors.specs.Contents.{Contents}
 use Rattle.descriptors.specs.Sound.{AreDistinct, IsSoundCatalog, IsSoundDatabase}
-use Rattle.row_locality.specs.Pairs.{KeyValue, bytes_cmp}
-use Rattle.row_locality.specs.Plain.{Layout, Partition, range_at, regions_of, database_of, partition_regions, partitions}
+use Rattle.row_locality.specs.Plain.{Layout, Partition, range_at, regions_of, database_of, partitions}
 use Rattle.row_locality.specs.Rows.{is_by_row}
 use Rattle.sql_eval.specs.Lookups.{is_in_region, near_first}
 use Rattle.answer_laws.proofs.Members.{Has, has_itself, each_has, pairs_head, pairs_tail, has_filter, filter_has, first_of_some, find_has}

@@ -1,13 +1,12 @@
 -- What a search by an index needs of partitions other than the near one.
-use Rattle.std.proofs.Common.{◌≡◌, ℕ, zero, suc, ◌+◌, ◌*◌, ◌<◌, Bool, true, false, cond, List, [], ◌∷◌, ◌++◌, length, refl, sym, ap, ◌∙◌, subst, inl, inr, arith}
-use Rattle.std.specs.Prelude.{⊤, ◌⊎◌, ◌≢◌, ◌==◌, not, if◌then◌else◌, filter, map, is_none, Option, Some, None, option_map, option_and_then, Result, Ok, Err}
-use Rattle.std.specs.FinMap.Entries.{find as entry, where_key}
+use Rattle.std.proofs.Common.{◌≡◌, ℕ, true, false, List, [], ◌∷◌, length, refl, sym, ap, ◌∙◌, subst, arith}
+use Rattle.std.specs.Prelude.{◌≢◌, ◌==◌, not, if◌then◌else◌, filter, map, Option, Some, None, option_map, Ok}
+use Rattle.std.specs.FinMap.Entries.{where_key}
 use Rattle.std.specs.List.{AllByRecursion}
 use Rattle.std.specs.Option.{option_map_or}
 use Rattle.std.proofs.lemmas.Bool.{ne_eqb}
 use Rattle.mr_base.specs.declared.ids.RangeId.{RangeId}
 use Rattle.mr_base.specs.declared.rows.Datum.{Datum}
-use Rattle.mr_base.specs.declared.script.Fed.{Fed}
 use Rattle.mr_base.specs.declared.spans.Ask.{Ask}
 use Rattle.mr_base.specs.declared.states.SqlState.{SqlState}
 use Rattle.mr_base.specs.declared.states.SqlState.TheVariants.{S42P01}
@@ -17,17 +16,17 @@ use Rattle.region_sql.specs.declared.row_statements.Term.{Term}
 use Rattle.descriptors.specs.declared.table.Table.{Table}
 use Rattle.row_locality.specs.Pairs.{KeyValue, bytes_cmp}
 use Rattle.row_locality.specs.Plain.{Layout, Partition}
-use Rattle.sql_eval.specs.Evaluation.{ends_at, has_pair, at_primary, followed_answers, found_rows, matched_rows, table_outcome, Outcome, unless, checked_outcome, statement_outcome, list_outcome, ListOutcome, Setting, evaluation, partitions_of, KeyedRow}
+use Rattle.sql_eval.specs.Evaluation.{ends_at, has_pair, at_primary, followed_answers, found_rows, matched_rows, table_outcome, Outcome, unless, checked_outcome, statement_outcome, list_outcome, Setting, evaluation, partitions_of, KeyedRow}
 use Rattle.sql_eval.specs.Execution.{Named, named_table, table_name}
 use Rattle.sql_eval.specs.Faults.{check_fault}
-use Rattle.sql_eval.specs.Laws.{NearComesFirst, IsNearSearch, search_terms}
+use Rattle.sql_eval.specs.Laws.{NearComesFirst, search_terms}
 use Rattle.sql_eval.specs.Lookups.{index_for, is_in_region, near_first, key_lookup, row_lookups, searched_partitions, fixed_region}
-use Rattle.sql_eval.specs.NextSpan.{next_in, asks_in}
-use Rattle.sql_eval.specs.OwnWrites.{reads_through, patched_pairs, values_written}
+use Rattle.sql_eval.specs.NextSpan.{asks_in}
+use Rattle.sql_eval.specs.OwnWrites.{reads_through, patched_pairs}
 use Rattle.sql_eval.specs.Reads.{Reads, served_reads}
 use Rattle.sql_eval.specs.Search.{Evaluation, gives, faults, needs, ◌>>=◌, followed_by, of_result, Lookup, Answer, ask_of, behind, after_answer, search as searched}
-use Rattle.answer_laws.proofs.Evaluations.{Needs, Gives, needs_bind, needs_followed}
-use Rattle.answer_laws.proofs.Lists.{each, each_weaker}
+use Rattle.answer_laws.proofs.Evaluations.{Needs, needs_bind, needs_followed}
+use Rattle.answer_laws.proofs.Lists.{each_weaker}
 use Rattle.answer_laws.proofs.LawsOfNeeds.{needed}
 use Rattle.answer_laws.proofs.NearFirst.{near_is_first}
 use Rattle.answer_laws.proofs.NeededSpans.{IsIn, at_primary_in}

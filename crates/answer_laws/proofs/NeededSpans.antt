@@ -1,6 +1,6 @@
 -- Which spans statements and lists need: those of the partitions of their tables that aren't known.
-use Rattle.std.proofs.Common.{◌≡◌, ℕ, ◌+◌, ◌*◌, ◌<◌, ◌≤◌, Bool, true, false, List, [], ◌∷◌, ◌++◌, length, refl, sym, ap, subst}
-use Rattle.std.specs.Prelude.{◌==◌, ◌||◌, not, if◌then◌else◌, ⊤, filter, flat_map, map, slice_get, Option, Some, None, option_map, option_and_then, Result, Ok, Err}
+use Rattle.std.proofs.Common.{◌≡◌, ℕ, ◌*◌, Bool, true, false, List, [], ◌∷◌, length, refl}
+use Rattle.std.specs.Prelude.{◌==◌, ◌||◌, not, if◌then◌else◌, filter, slice_get, Option, Some, None, option_map, option_and_then, Ok}
 use Rattle.std.specs.List.{AllByRecursion, enumerate_from, list_any}
 use Rattle.std.specs.Option.{option_map_or, option_to_list}
 use Rattle.mr_base.specs.declared.rows.Datum.{Datum}
@@ -16,16 +16,16 @@ use Rattle.row_locality.specs.Pairs.{KeyValue}
 use Rattle.row_locality.specs.Plain.{Layout, Partition}
 use Rattle.row_locality.specs.Reading.{primary_of}
 use Rattle.row_locality.specs.Rows.{indexes, region_of}
-use Rattle.sql_eval.specs.Evaluation.{KeyedRow, ends_at, led_to, at_primary, followed_answers, found_rows, if_free, meets_other, table_outcome, Outcome, unless, checked_outcome, statement_outcome, list_outcome, ListOutcome, Setting, evaluation, partitions_of, rows_of}
+use Rattle.sql_eval.specs.Evaluation.{KeyedRow, ends_at, led_to, at_primary, followed_answers, found_rows, if_free, meets_other, table_outcome, Outcome, unless, checked_outcome, statement_outcome, list_outcome, Setting, evaluation, partitions_of, rows_of}
 use Rattle.sql_eval.specs.Execution.{Named, named_table, table_name}
 use Rattle.sql_eval.specs.Faults.{check_fault}
 use Rattle.sql_eval.specs.Lookups.{index_for, is_in_region, near_first, searched_partitions, fixed_region, key_lookup, primary_lookup, whole_partition, row_lookups, own_first, index_lookups, key_lookups, new_row_lookups, changed_indexes, changed_row_lookups}
 use Rattle.sql_eval.specs.OwnWrites.{OwnWrites, with_writes, reads_through, patched_pairs, values_written}
 use Rattle.sql_eval.specs.Reads.{Reads}
 use Rattle.sql_eval.specs.RowWords.{default_region, made_rows, changed_rows, has_twins}
-use Rattle.sql_eval.specs.Search.{Evaluation, gives, faults, needs, ◌>>=◌, followed_by, Lookup, Answer, ask_of, search as searched}
-use Rattle.answer_laws.proofs.Evaluations.{Needs, Gives, gives_followed, needs_followed, needs_given, needs_bind, needs_result}
-use Rattle.answer_laws.proofs.Lists.{each, each_append, each_filter, each_map, each_flat_map, each_option, each_weaker}
+use Rattle.sql_eval.specs.Search.{Evaluation, gives, faults, followed_by, Lookup, Answer, search as searched}
+use Rattle.answer_laws.proofs.Evaluations.{Needs, gives_followed, needs_followed, needs_given, needs_bind, needs_result}
+use Rattle.answer_laws.proofs.Lists.{each, each_append, each_filter, each_map, each_flat_map, each_weaker}
 use Rattle.answer_laws.proofs.Searches.{MayNeed, search_needs, search_gives, needs_if}
 
 -- ---- look-ups are in partitions

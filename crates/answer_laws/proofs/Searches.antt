@@ -1,11 +1,11 @@
 -- Searches over a part and over the whole of what is known, and what they need.
-use Rattle.std.proofs.Common.{◌≡◌, ℕ, suc, ◌+◌, ◌<◌, ◌≤◌, Bool, true, false, List, [], ◌∷◌, length, refl, sym, ap, subst, inl, inr, arith}
-use Rattle.std.specs.Prelude.{⊤, if◌then◌else◌, Option, Some, None}
+use Rattle.std.proofs.Common.{◌≡◌, ℕ, suc, ◌<◌, ◌≤◌, Bool, true, false, List, [], ◌∷◌, length, refl, sym, subst, inl, inr, arith}
+use Rattle.std.specs.Prelude.{if◌then◌else◌, Option, Some, None}
 use Rattle.std.specs.List.{AllByRecursion}
 use Rattle.mr_base.specs.declared.spans.Ask.{Ask}
 use Rattle.row_locality.specs.Pairs.{KeyValue}
 use Rattle.sql_eval.specs.Reads.{Reads, IsPartOf}
-use Rattle.sql_eval.specs.Search.{Evaluation, gives, faults, needs, ◌>>=◌, Lookup, Answer, ask_of, behind, after_answer, search as searched}
+use Rattle.sql_eval.specs.Search.{Evaluation, gives, faults, needs, Lookup, Answer, ask_of, behind, after_answer, search as searched}
 use Rattle.answer_laws.proofs.Evaluations.{IsLower, IsKept, HasPhases, Needs, Gives, kept_end, phases_bind, needs_bind, gives_bind}
 
 -- ---- phases and asks

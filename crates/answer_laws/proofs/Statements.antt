@@ -1,6 +1,6 @@
 -- Statements and lists over a part and over the whole of what is known.
-use Rattle.std.proofs.Common.{◌≡◌, ℕ, ◌+◌, ◌*◌, ◌<◌, ◌≤◌, Bool, true, false, List, [], ◌∷◌, length, refl, sym, ap, subst, arith}
-use Rattle.std.specs.Prelude.{◌==◌, ◌||◌, if◌then◌else◌, ⊤, Option, Some, None, option_map}
+use Rattle.std.proofs.Common.{◌≡◌, ℕ, ◌*◌, Bool, true, false, List, [], ◌∷◌, length, refl, sym, ap, subst, arith}
+use Rattle.std.specs.Prelude.{◌==◌, ◌||◌, if◌then◌else◌, Option, Some, None, option_map}
 use Rattle.std.specs.List.{list_any}
 use Rattle.std.specs.Option.{option_map_or}
 use Rattle.mr_base.specs.declared.rows.Datum.{Datum}
@@ -13,14 +13,14 @@ use Rattle.region_sql.specs.declared.row_statements.Term.{Term}
 use Rattle.descriptors.specs.declared.table.Table.{Table}
 use Rattle.row_locality.specs.Pairs.{KeyValue}
 use Rattle.row_locality.specs.Plain.{Layout, Partition}
-use Rattle.sql_eval.specs.Evaluation.{KeyedRow, at_primary, followed_answers, found_rows, if_free, meets_other, table_outcome, Outcome, unless, checked_outcome, statement_outcome, list_outcome, ListOutcome, Setting, evaluation}
+use Rattle.sql_eval.specs.Evaluation.{KeyedRow, at_primary, followed_answers, found_rows, if_free, meets_other, table_outcome, Outcome, unless, checked_outcome, statement_outcome, list_outcome, Setting, evaluation}
 use Rattle.sql_eval.specs.Execution.{Named, named_table, table_name}
 use Rattle.sql_eval.specs.Faults.{check_fault}
 use Rattle.sql_eval.specs.Lookups.{index_for}
 use Rattle.sql_eval.specs.OwnWrites.{OwnWrites, with_writes, reads_through, patched_pairs, values_written}
 use Rattle.sql_eval.specs.Reads.{Reads, IsPartOf}
 use Rattle.sql_eval.specs.RowWords.{has_twins}
-use Rattle.sql_eval.specs.Search.{Evaluation, gives, faults, needs, ◌>>=◌, followed_by, Lookup, Answer, search as searched}
+use Rattle.sql_eval.specs.Search.{Evaluation, gives, faults, Lookup, Answer}
 use Rattle.answer_laws.proofs.Evaluations.{IsKept, HasPhases, phases_more, phases_followed, phases_bind, phases_result, kept_bind, kept_end, kept_result, kept_through}
 use Rattle.answer_laws.proofs.Searches.{search_phases, search_kept, phases_if, kept_if}
 

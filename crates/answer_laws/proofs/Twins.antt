@@ -1,17 +1,16 @@
 -- Rows that may not stand side by side, and tables of rows that may.
-use Rattle.std.proofs.Common.{◌≡◌, ℕ, ◌<◌, Bool, true, false, cond, List, [], ◌∷◌, ◌++◌, refl, sym, ap, ◌∙◌, subst, inl, inr}
-use Rattle.std.specs.Prelude.{⊤, ◌⊎◌, ◌≢◌, ◌||◌, All, AllPairs, filter}
+use Rattle.std.proofs.Common.{◌≡◌, ℕ, Bool, true, false, List, [], ◌∷◌, refl, sym, subst}
+use Rattle.std.specs.Prelude.{◌≢◌, ◌||◌, filter}
 use Rattle.std.specs.Cmp.{Equal-is, tied_itself}
 use Rattle.std.specs.List.{AllByRecursion, list_any}
-use Rattle.std.specs.Ordering.{is_eq, eq_by_cmp}
-use Rattle.std.specs.declared.cmp.Ordering.{Ordering}
-use Rattle.std.specs.declared.cmp.Ordering.TheVariants.{Less, Equal, Greater}
-use Rattle.std.proofs.lemmas.List.Elements.{All-from_recursion, recursion_from_All, All-head, All-weaker, All-filter}
+use Rattle.std.specs.Ordering.{is_eq}
+use Rattle.std.specs.declared.cmp.Ordering.TheVariants.{Equal}
+use Rattle.std.proofs.lemmas.List.Elements.{All-from_recursion, All-head, All-weaker, All-filter}
 use Rattle.mr_base.specs.declared.rows.Datum.{Datum}
 use Rattle.descriptors.specs.Contents.{Contents}
 use Rattle.descriptors.specs.declared.table.Table.{Table}
 use Rattle.row_locality.specs.Plain.{AreApart, AreRowsOf, IsRowOf}
-use Rattle.row_locality.specs.Rows.{are_equal_in, indexes, key_cmp, key_of, row_cmp, values_at}
+use Rattle.row_locality.specs.Rows.{are_equal_in, indexes, key_cmp, key_of, values_at}
 use Rattle.row_locality.proofs.DatumOrder.{key_cmp_exact, key_cmp_total}
 use Rattle.sql_eval.specs.Execution.{rows_in_order}
 use Rattle.sql_eval.specs.RowWords.{are_twins, has_twins}

@@ -9,6 +9,7 @@ ghost use Rattle.sql_eval.specs.Laws.{
   KnownIsNotNeeded,
   NeedsAreOfTheTables,
   NearComesFirst,
+  WritesAreOfTheTables,
 };
 
 /// What a list gives stays, whatever more is known.
@@ -49,4 +50,9 @@ pub fn needs_are_of_the_tables()
 /// A search by an index needs a span of another partition only after the near one held no pair of its key.
 pub fn near_comes_first()
     ensures { NearComesFirst }
+{}
+
+/// Each key that a list writes is in a range of one of its tables.
+pub fn writes_are_of_the_tables()
+    ensures { WritesAreOfTheTables }
 {}

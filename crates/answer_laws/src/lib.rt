@@ -6,5 +6,5 @@ mod laws;
 
 pub use laws::{
     answers_bring_nearer, fed_is_known, known_is_not_needed, near_comes_first, needs_are_counted,
-    needs_are_of_the_tables, stays_faulty, stays_given,
+    needs_are_of_the_tables, stays_faulty, stays_given, writes_are_of_the_tables,
 };
