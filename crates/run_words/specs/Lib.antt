@@ -1,0 +1,17 @@
+pub mod Askers
+pub mod Attempts
+pub mod Clocks
+pub mod Context
+pub mod Happened
+pub mod History
+pub mod Laws
+pub mod Logs
+pub mod Messages
+pub mod Nodes
+pub mod Puts
+pub mod Ranges
+pub mod Relations
+pub mod Serving
+pub mod Setup
+pub mod Steps
+pub mod Transactions
