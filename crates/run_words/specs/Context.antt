@@ -20,6 +20,10 @@ pub record Context : Type 0 where
 abbrev pub context : History → Context
 context h =
     record {
-      event = event_of h; has_entry = has_entry h; has_ticked = has_ticked h; passed = passed h; step = step_of h;
-      own = own_txn h
+      event = event_of h;
+      has_entry = has_entry h;
+      has_ticked = has_ticked h;
+      passed = passed h;
+      step = step_of h;
+      own = own_txn h;
     }

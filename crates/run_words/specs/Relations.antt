@@ -23,8 +23,12 @@ abbrev pub IsServe : Setup → ServedRead → Item → History → Type 0
 IsServe setup s (Made (entry.Serve attempt node range span at limit count by known)) h =
     s ≡ record {
       read = record { attempt = attempt; span = span; at = at; limit = limit; known = known };
-      node = node; range = range; count = count; entries = first_entries count (log_of setup h range); by = by;
-      via = handled h
+      node = node;
+      range = range;
+      count = count;
+      entries = first_entries count (log_of setup h range);
+      by = by;
+      via = handled h;
     }
 IsServe setup s _ h = ⊥
 

@@ -51,7 +51,12 @@ serves_after (Made (entry.Serve attempt node range span at limit count by known)
     if attempt.0 == a.0
     then record {
       read = record { attempt = attempt; span = span; at = at; limit = limit; known = known };
-      node = node; range = range; count = count; entries = first_entries count (logs range); by = by; via = via
+      node = node;
+      range = range;
+      count = count;
+      entries = first_entries count (logs range);
+      by = by;
+      via = via;
     } ∷ old
     else old
 serves_after _ logs via a old = old
