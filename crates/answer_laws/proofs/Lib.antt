@@ -14,3 +14,4 @@ pub mod Searches
 pub mod Statements
 pub mod Twins
 pub mod WrittenRanges
+pub mod WrittenValues
