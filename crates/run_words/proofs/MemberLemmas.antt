@@ -27,7 +27,7 @@ number k = record { 0 = k }
 same_attempt : (b a : AttemptId) → (b.0 == a.0) ≡ true → b ≡ a
 same_attempt b a e = ap number (eqb-true b.0 a.0 e)
 
-itself : (k : ℕ) → (k == k) ≡ true
+pub itself : (k : ℕ) → (k == k) ≡ true
 itself k = grind arith
 
 test_of_same : (b a : AttemptId) → b ≡ a → (b.0 == a.0) ≡ true

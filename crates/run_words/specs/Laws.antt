@@ -1,7 +1,9 @@
 use Rattle.std.specs.Prelude.{◌≡◌, ◌↔◌}
 use Rattle.std.specs.List.{Contains}
 use Rattle.mr_base.specs.declared.ids.AttemptId.{AttemptId}
+use Rattle.range_log.specs.declared.entries.Entry.TheVariants as log
 use Rattle.run_words.specs.History.{Item, Ran, Ticked, Made, History}
+use Rattle.run_words.specs.Logs.{log_of}
 use Rattle.run_words.specs.Puts.{PutMade, puts}
 use Rattle.run_words.specs.Relations.{WasServed, WasPut}
 use Rattle.run_words.specs.Serving.{ServedRead, serves}
@@ -18,3 +20,9 @@ ServesAreServed =
 -- The puts of an attempt are those that were made in its name.
 abbrev pub PutsArePut : Type 0
 PutsArePut = (h : History) (a : AttemptId) (p : PutMade) → Contains (puts h a) p ↔ WasPut a p h
+
+-- A put that was made stands in the log of its range.
+abbrev pub PutsStandInLogs : Type 0
+PutsStandInLogs =
+    (setup : Setup) (h : History) (a : AttemptId) (p : PutMade) → WasPut a p h
+    → Contains (log_of setup h p.range) (log.Put a p.start p.anchor p.ts p.key p.value)

@@ -3,4 +3,4 @@
 
 mod laws;
 
-pub use laws::{puts_are_put, serves_are_served};
+pub use laws::{puts_are_put, puts_stand_in_logs, serves_are_served};
