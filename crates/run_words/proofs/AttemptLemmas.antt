@@ -1,11 +1,11 @@
-use Rattle.std.proofs.Common.{◌≡◌, List, [], ◌∷◌, inl, inr, ⊎_elim, refl, sym, ap, ◌∙◌}
-use Rattle.std.specs.Prelude.{◌⊎◌, ◌==◌}
+use Rattle.std.proofs.Common.{◌≡◌, [], ◌∷◌, inl, inr, ⊎_elim, refl, sym, ap, ◌∙◌}
+use Rattle.std.specs.Prelude.{◌==◌}
 use Rattle.std.specs.List.{Contains}
 use Rattle.mr_base.specs.declared.ids.AttemptId.{AttemptId}
 use Rattle.range_log.specs.declared.entries.Entry.TheVariants as log
 use Rattle.journal.specs.declared.entries.JournalEntry.TheVariants as entry
 use Rattle.run_words.proofs.MemberLemmas.{contains_none, picked_cases, picked_in}
-use Rattle.run_words.specs.History.{Item, Made, History}
+use Rattle.run_words.specs.History.{Made, History}
 use Rattle.run_words.specs.Puts.{PutMade, puts}
 use Rattle.run_words.specs.Relations.{WasServed, WasPut}
 use Rattle.run_words.specs.Serving.{ServedRead, serves}

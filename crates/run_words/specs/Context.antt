@@ -3,7 +3,7 @@ use Rattle.mr_base.specs.declared.ids.NodeId.{NodeId}
 use Rattle.mr_base.specs.declared.ids.RangeId.{RangeId}
 use Rattle.mr_base.specs.declared.ids.TxnId.{TxnId}
 use Rattle.journal.specs.declared.events.Event.{Event}
-use Rattle.run_words.specs.History.{Item, Ran, Ticked, Made, History}
+use Rattle.run_words.specs.History.{History}
 use Rattle.run_words.specs.Askers.{own_txn}
 use Rattle.run_words.specs.Steps.{Step, event_of, step_of, has_entry, has_ticked, passed}
 
@@ -20,6 +20,10 @@ pub record Context : Type 0 where
 abbrev pub context : History → Context
 context h =
     record {
-      event = event_of h; has_entry = has_entry h; has_ticked = has_ticked h; passed = passed h; step = step_of h;
-      own = own_txn h
+      event = event_of h;
+      has_entry = has_entry h;
+      has_ticked = has_ticked h;
+      passed = passed h;
+      step = step_of h;
+      own = own_txn h;
     }

@@ -2,7 +2,7 @@ use Rattle.std.specs.Prelude.{◌≡◌, ◌↔◌}
 use Rattle.std.specs.List.{Contains}
 use Rattle.mr_base.specs.declared.ids.AttemptId.{AttemptId}
 use Rattle.range_log.specs.declared.entries.Entry.TheVariants as log
-use Rattle.run_words.specs.History.{Item, Ran, Ticked, Made, History}
+use Rattle.run_words.specs.History.{History}
 use Rattle.run_words.specs.Logs.{log_of}
 use Rattle.run_words.specs.Puts.{PutMade, puts}
 use Rattle.run_words.specs.Relations.{WasServed, WasPut}

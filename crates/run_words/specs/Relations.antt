@@ -1,15 +1,12 @@
-use Rattle.std.specs.Prelude.{◌≡◌, IsSome, [], ◌∷◌, Some}
+use Rattle.std.specs.Prelude.{◌≡◌, IsSome, ◌∷◌, Some}
 use Rattle.range_log.specs.declared.entries.TxnState.TheVariants as states
 use Rattle.mr_base.specs.declared.ids.AttemptId.{AttemptId}
 use Rattle.mr_base.specs.declared.ids.TxnId.{TxnId}
 use Rattle.mr_base.specs.declared.messages.Fate.{Fate}
-use Rattle.mr_base.specs.declared.ids.RangeId.{RangeId}
-use Rattle.range_log.specs.declared.entries.Entry.{Entry}
 use Rattle.range_log.specs.declared.entries.Entry.TheVariants as log
 use Rattle.journal.specs.declared.entries.JournalEntry.TheVariants as entry
-use Rattle.mvcc_range.specs.Answer.{Read}
 use Rattle.range_log.specs.Facts.{first_entries}
-use Rattle.run_words.specs.History.{Item, Ran, Ticked, Made, History}
+use Rattle.run_words.specs.History.{Item, Made, History}
 use Rattle.run_words.specs.Happened.{Happened}
 use Rattle.run_words.specs.Logs.{log_of}
 use Rattle.run_words.specs.Puts.{PutMade, fate_shown}
@@ -24,8 +21,12 @@ abbrev pub IsServe : Setup → ServedRead → Item → History → Type 0
 IsServe setup s (Made (entry.Serve attempt node range span at limit count by known)) h =
     s ≡ record {
       read = record { attempt = attempt; span = span; at = at; limit = limit; known = known };
-      node = node; range = range; count = count; entries = first_entries count (log_of setup h range); by = by;
-      via = handled h
+      node = node;
+      range = range;
+      count = count;
+      entries = first_entries count (log_of setup h range);
+      by = by;
+      via = handled h;
     }
 IsServe setup s _ h = ⊥
 
