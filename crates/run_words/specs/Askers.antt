@@ -1,4 +1,4 @@
-use Rattle.std.specs.Prelude.{◌==◌, if◌then◌else◌, [], ◌∷◌, Option, Some, None}
+use Rattle.std.specs.Prelude.{if◌then◌else◌, [], ◌∷◌, Option, Some, None}
 use Rattle.mr_base.specs.declared.ids.AttemptId.{AttemptId}
 use Rattle.mr_base.specs.declared.ids.NodeId.{NodeId}
 use Rattle.mr_base.specs.declared.ids.TxnId.{TxnId}
@@ -12,7 +12,7 @@ use Rattle.journal.specs.declared.entries.JournalEntry.TheVariants as entry
 use Rattle.run_words.specs.History.{Item, Ran, Ticked, Made, History}
 use Rattle.std.specs.Option.{option_and_then, option_map}
 use Rattle.run_words.specs.Attempts.{attempt_of}
-use Rattle.run_words.specs.Messages.{Mail, mail, answered_by}
+use Rattle.run_words.specs.Messages.{mail, answered_by}
 use Rattle.run_words.specs.Transactions.{beginning, is_open}
 
 -- In whose step of its own a gateway is. (This project's profile.)
@@ -39,7 +39,8 @@ txn_of h a = option_map (λ attempt. attempt.txn) (attempt_of h a)
 
 -- The transaction that asked by this message.
 abbrev pub asking_txn : History → MsgId → Option TxnId
-asking_txn h m = option_and_then (λ request. txn_of h (asker_of request)) (option_and_then (λ sent. request_of sent.body) (mail h m))
+asking_txn h m =
+    option_and_then (λ request. txn_of h (asker_of request)) (option_and_then (λ sent. request_of sent.body) (mail h m))
 
 abbrev pub while_open : History → TxnId → Option TxnId
 while_open h t = if is_open h t then Some t else None

@@ -1,8 +1,7 @@
-use Rattle.std.specs.Prelude.{ℕ, ◌+◌, ◌-◌, ◌==◌, if◌then◌else◌, List, [], ◌∷◌, Option, Some, None}
+use Rattle.std.specs.Prelude.{◌+◌, ◌-◌, ◌==◌, if◌then◌else◌, [], ◌∷◌, Option, Some, None}
 use Rattle.mr_base.specs.declared.ids.AttemptId.{AttemptId}
 use Rattle.mr_base.specs.declared.ids.TxnId.{TxnId}
 use Rattle.mr_base.specs.declared.timestamps.Ts.{Ts}
-use Rattle.mr_base.specs.declared.settings.Kind.{Kind}
 use Rattle.mr_base.specs.declared.settings.Kind.TheVariants as kinds
 use Rattle.range_log.specs.declared.entries.RetryCause.{RetryCause}
 use Rattle.range_log.specs.declared.entries.RetryCause.TheVariants as causes
@@ -10,8 +9,8 @@ use Rattle.mr_base.specs.Timestamps.{later}
 use Rattle.journal.specs.declared.entries.JournalEntry.TheVariants as entry
 use Rattle.journal.specs.declared.events.Event.{Event}
 use Rattle.journal.specs.declared.events.Event.TheVariants as events
-use Rattle.run_words.specs.History.{Item, Ran, Ticked, Made, History}
-use Rattle.std.specs.Option.{option_and_then, option_map, option_map_or}
+use Rattle.run_words.specs.History.{Item, Made, History}
+use Rattle.std.specs.Option.{option_and_then, option_map}
 use Rattle.run_words.specs.Puts.{greatest_with, puts}
 use Rattle.run_words.specs.Steps.{event_of}
 use Rattle.run_words.specs.Transactions.{last_attempt}
@@ -43,8 +42,9 @@ next_read (causes.Uncertain key ts) read_at greatest a = above (later ts read_at
 next_read (causes.NewerWrite ts) read_at greatest a = above (later greatest read_at) a
 next_read (causes.Pushed ts) read_at greatest a = above (later ts read_at) a
 
--- An attempt before, with the timestamp where it reads and the greatest that its puts reach.
-abbrev pub retried : TxnId → RetryCause → AttemptId → (AttemptId → Ts → Ts) → AttemptId → Option Attempt → Option Attempt
+-- The attempt after one that read so and whose puts reach so far.
+abbrev pub retried : TxnId → RetryCause → AttemptId → (AttemptId → Ts → Ts) → AttemptId → Option Attempt
+    → Option Attempt
 retried txn cause a greatest former read =
     option_map (λ r. record { txn = txn; read_at = next_read cause r.read_at (greatest former r.read_at) a }) read
 

@@ -3,7 +3,7 @@ use Rattle.mr_base.specs.declared.ids.NodeId.{NodeId}
 use Rattle.mr_base.specs.declared.ids.RangeId.{RangeId}
 use Rattle.mr_base.specs.declared.ids.TxnId.{TxnId}
 use Rattle.journal.specs.declared.events.Event.{Event}
-use Rattle.run_words.specs.History.{Item, Ran, Ticked, Made, History}
+use Rattle.run_words.specs.History.{History}
 use Rattle.run_words.specs.Askers.{own_txn}
 use Rattle.run_words.specs.Steps.{Step, event_of, step_of, has_entry, has_ticked, passed}
 

@@ -1,12 +1,8 @@
-use Rattle.std.specs.Prelude.{◌≡◌, ◌↔◌, ◌⊎◌, ℕ, Option, List}
+use Rattle.std.specs.Prelude.{◌≡◌, ◌↔◌}
 use Rattle.std.specs.List.{Contains}
 use Rattle.mr_base.specs.declared.ids.AttemptId.{AttemptId}
-use Rattle.mr_base.specs.declared.ids.RangeId.{RangeId}
-use Rattle.mr_base.specs.declared.ids.MsgId.{MsgId}
-use Rattle.mr_base.specs.declared.timestamps.Ts.{Ts}
-use Rattle.range_log.specs.declared.entries.Entry.{Entry}
 use Rattle.range_log.specs.declared.entries.Entry.TheVariants as log
-use Rattle.run_words.specs.History.{Item, Ran, Ticked, Made, History}
+use Rattle.run_words.specs.History.{History}
 use Rattle.run_words.specs.Logs.{log_of}
 use Rattle.run_words.specs.Puts.{PutMade, puts}
 use Rattle.run_words.specs.Relations.{WasServed, WasPut}
@@ -25,16 +21,8 @@ ServesAreServed =
 abbrev pub PutsArePut : Type 0
 PutsArePut = (h : History) (a : AttemptId) (p : PutMade) → Contains (puts h a) p ↔ WasPut a p h
 
--- The entry of a log that a put is.
-abbrev pub put_entry : AttemptId → PutMade → Entry
-put_entry a p = log.Put a p.start p.anchor p.ts p.key p.value
-
--- The puts in a log are those with which its range begins and those that were made there.
+-- A put that was made stands in the log of its range.
 abbrev pub PutsStandInLogs : Type 0
 PutsStandInLogs =
-    (setup : Setup) (h : History) (a : AttemptId) (j : RangeId) (start : Ts) (anchor : RangeId) (ts : Ts) (key : List ℕ)
-    (value : Option (List ℕ))
-    → Contains (log_of setup h j) (log.Put a start anchor ts key value)
-    ↔ (Contains (setup.beginning j) (log.Put a start anchor ts key value)
-    ⊎ ((via : Option MsgId)
-    × WasPut a (record { range = j; start = start; anchor = anchor; ts = ts; key = key; value = value; via = via }) h))
+    (setup : Setup) (h : History) (a : AttemptId) (p : PutMade) → WasPut a p h
+    → Contains (log_of setup h p.range) (log.Put a p.start p.anchor p.ts p.key p.value)

@@ -1,15 +1,13 @@
 use Rattle.std.specs.Prelude.{ℕ, ◌==◌, ◌||◌, Bool, true, false, max, if◌then◌else◌, List, [], ◌∷◌, length, Option, Some, None}
 use Rattle.mr_base.specs.declared.ids.NodeId.{NodeId}
 use Rattle.mr_base.specs.declared.ids.RangeId.{RangeId}
-use Rattle.mr_base.specs.declared.ids.MsgId.{MsgId}
 use Rattle.range_log.specs.declared.entries.Entry.{Entry}
-use Rattle.range_log.specs.declared.entries.Lease.{Lease}
 use Rattle.range_log.specs.Facts.{first_entries, lease_of}
 use Rattle.journal.specs.declared.entries.JournalEntry.TheVariants as entry
 use Rattle.journal.specs.declared.events.Event.{Event}
 use Rattle.journal.specs.declared.events.Event.TheVariants as events
-use Rattle.run_words.specs.History.{Item, Ran, Ticked, Made, History}
-use Rattle.std.specs.Option.{option_and_then, option_map}
+use Rattle.run_words.specs.History.{Item, Made, History}
+use Rattle.std.specs.Option.{option_map}
 use Rattle.run_words.specs.Askers.{gateway_of}
 use Rattle.run_words.specs.Messages.{mail}
 use Rattle.run_words.specs.Setup.{Setup}

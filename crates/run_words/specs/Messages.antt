@@ -1,4 +1,4 @@
-use Rattle.std.specs.Prelude.{ℕ, ◌==◌, Bool, true, false, not, if◌then◌else◌, List, [], ◌∷◌, ◌++◌, Option, Some, None}
+use Rattle.std.specs.Prelude.{◌==◌, Bool, true, false, not, if◌then◌else◌, List, [], ◌∷◌, ◌++◌, Option, Some, None}
 use Rattle.std.specs.List.{filter}
 use Rattle.std.specs.Option.{option_and_then}
 use Rattle.mr_base.specs.declared.ids.NodeId.{NodeId}
@@ -7,7 +7,7 @@ use Rattle.mr_base.specs.declared.timestamps.Reading.{Reading}
 use Rattle.journal.specs.declared.entries.Shown.{Shown}
 use Rattle.journal.specs.declared.entries.Shown.TheVariants as shown
 use Rattle.journal.specs.declared.entries.JournalEntry.TheVariants as entry
-use Rattle.run_words.specs.History.{Item, Ran, Ticked, Made, History}
+use Rattle.run_words.specs.History.{Item, Made, History}
 use Rattle.run_words.specs.Steps.{step_of, answered_in, taken_in}
 
 -- What was sent, and what became of it. (This project's profile.)

@@ -1,7 +1,7 @@
 use Rattle.std.specs.Prelude.{ℕ, ◌+◌, ◌==◌, Bool, true, false, if◌then◌else◌, [], ◌∷◌}
 use Rattle.mr_base.specs.declared.ids.NodeId.{NodeId}
 use Rattle.journal.specs.declared.events.Event.TheVariants as events
-use Rattle.run_words.specs.History.{Item, Ran, Ticked, Made, History}
+use Rattle.run_words.specs.History.{Item, Ran, History}
 
 -- Which nodes run, and at which boot. (This project's profile.)
 

@@ -1,4 +1,4 @@
-use Rattle.std.specs.Prelude.{ℕ, ◌==◌, ◌⊎◌, ⊤, if◌then◌else◌, List, [], ◌∷◌, Option, Some, None}
+use Rattle.std.specs.Prelude.{ℕ, ◌==◌, if◌then◌else◌, List, [], ◌∷◌, Option, Some, None}
 use Rattle.mr_base.specs.declared.ids.AttemptId.{AttemptId}
 use Rattle.mr_base.specs.declared.ids.RangeId.{RangeId}
 use Rattle.mr_base.specs.declared.ids.MsgId.{MsgId}
@@ -10,7 +10,7 @@ use Rattle.range_log.specs.declared.entries.Entry.TheVariants as log
 use Rattle.range_log.specs.declared.entries.TxnState.{TxnState}
 use Rattle.range_log.specs.declared.entries.TxnState.TheVariants as states
 use Rattle.journal.specs.declared.entries.JournalEntry.TheVariants as entry
-use Rattle.run_words.specs.History.{Item, Ran, Ticked, Made, History}
+use Rattle.run_words.specs.History.{Item, Made, History}
 use Rattle.run_words.specs.Messages.{handled}
 use Rattle.std.specs.Option.{option_map}
 
@@ -45,7 +45,8 @@ greatest_with ts [] = ts
 greatest_with ts (put ∷ older) = later (greatest_with ts older) put.ts
 
 abbrev pub record_after : Item → AttemptId → Option TxnState → Option TxnState
-record_after (Made (entry.Append range index (log.State attempt state))) a old = if attempt.0 == a.0 then Some state else old
+record_after (Made (entry.Append range index (log.State attempt state))) a old =
+    if attempt.0 == a.0 then Some state else old
 record_after _ a old = old
 
 -- The record of an attempt: its last state, in whatever range that stands.

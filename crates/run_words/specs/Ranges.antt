@@ -1,9 +1,9 @@
-use Rattle.std.specs.Prelude.{◌≡◌, ℕ, ◌-◌, ◌*◌, ◌<◌, IsTrue, List, [], ◌++◌, length, slice_get}
+use Rattle.std.specs.Prelude.{◌≡◌, ◌-◌, ◌*◌, ◌<◌, IsTrue, List, [], ◌++◌, length, slice_get}
 use Rattle.std.specs.List.{filter, Contains}
 use Rattle.std.specs.Option.{option_map_or}
 use Rattle.mr_base.specs.declared.ids.NodeId.{NodeId}
 use Rattle.mr_base.specs.declared.ids.RangeId.{RangeId}
-use Rattle.run_words.specs.History.{Item, Ran, Ticked, Made, History}
+use Rattle.run_words.specs.History.{History}
 use Rattle.run_words.specs.Logs.{applied, log_of}
 use Rattle.run_words.specs.Nodes.{is_running}
 use Rattle.run_words.specs.Setup.{RangeSetup, Setup}
@@ -31,4 +31,5 @@ HasQuorum setup h j = length (voters_of setup h j) < 2 * length (filter (is_runn
 -- Every replica of a node that runs has applied all of its log. (This project's profile.)
 abbrev pub IsAllApplied : Setup → History → Type 0
 IsAllApplied setup h =
-    (n : NodeId) (j : RangeId) → IsTrue (is_running h n) → HoldsReplica setup h n j → applied setup h n j ≡ length (log_of setup h j)
+    (n : NodeId) (j : RangeId) → IsTrue (is_running h n) → HoldsReplica setup h n j
+    → applied setup h n j ≡ length (log_of setup h j)

@@ -1,14 +1,12 @@
-use Rattle.std.specs.Prelude.{◌≡◌, IsSome, [], ◌∷◌, Some}
+use Rattle.std.specs.Prelude.{◌≡◌, IsSome, ◌∷◌, Some}
+use Rattle.range_log.specs.declared.entries.TxnState.TheVariants as states
 use Rattle.mr_base.specs.declared.ids.AttemptId.{AttemptId}
 use Rattle.mr_base.specs.declared.ids.TxnId.{TxnId}
 use Rattle.mr_base.specs.declared.messages.Fate.{Fate}
-use Rattle.mr_base.specs.declared.ids.RangeId.{RangeId}
-use Rattle.range_log.specs.declared.entries.Entry.{Entry}
 use Rattle.range_log.specs.declared.entries.Entry.TheVariants as log
 use Rattle.journal.specs.declared.entries.JournalEntry.TheVariants as entry
-use Rattle.mvcc_range.specs.Answer.{Read}
 use Rattle.range_log.specs.Facts.{first_entries}
-use Rattle.run_words.specs.History.{Item, Ran, Ticked, Made, History}
+use Rattle.run_words.specs.History.{Item, Made, History}
 use Rattle.run_words.specs.Happened.{Happened}
 use Rattle.run_words.specs.Logs.{log_of}
 use Rattle.run_words.specs.Puts.{PutMade, fate_shown}
@@ -53,6 +51,16 @@ IsFated a b f _ h = ⊥
 -- An attempt has learned the fate of another.
 abbrev pub WasFated : AttemptId → AttemptId → Fate → History → Type 0
 WasFated a b f h = Happened (IsFated a b f) h
+
+-- The entries of an attempt: its beginning, what was served to it, what it learned, its puts and its commit.
+abbrev pub IsOfAttempt : AttemptId → Item → Type 0
+IsOfAttempt a (Made (entry.Begin txn attempt gateway start limit)) = attempt ≡ a
+IsOfAttempt a (Made (entry.Retry txn attempt cause)) = attempt ≡ a
+IsOfAttempt a (Made (entry.Serve attempt node range span at limit count by known)) = attempt ≡ a
+IsOfAttempt a (Made (entry.Fated attempt other fate)) = attempt ≡ a
+IsOfAttempt a (Made (entry.Append range index (log.Put attempt start anchor ts key value))) = attempt ≡ a
+IsOfAttempt a (Made (entry.Append range index (log.State attempt (states.Committed ts)))) = attempt ≡ a
+IsOfAttempt a _ = ⊥
 
 abbrev pub ShowsSince : TxnId → AttemptId → Fate → Item → History → Type 0
 ShowsSince t b f x h = IsSome (last_attempt (x ∷ h) t) × (fate_shown (x ∷ h) b ≡ Some f)

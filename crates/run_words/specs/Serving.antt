@@ -1,4 +1,4 @@
-use Rattle.std.specs.Prelude.{◌≡◌, ℕ, ◌==◌, if◌then◌else◌, List, [], ◌∷◌, Option, Some, None}
+use Rattle.std.specs.Prelude.{◌≡◌, ℕ, ◌==◌, if◌then◌else◌, List, [], ◌∷◌, Option, Some}
 use Rattle.mr_base.specs.declared.ids.AttemptId.{AttemptId}
 use Rattle.mr_base.specs.declared.ids.NodeId.{NodeId}
 use Rattle.mr_base.specs.declared.ids.RangeId.{RangeId}
@@ -12,7 +12,7 @@ use Rattle.journal.specs.declared.entries.JournalEntry.TheVariants as entry
 use Rattle.mvcc_range.specs.Answer.{Read}
 use Rattle.range_log.specs.Facts.{closed_of, first_entries, lease_of}
 use Rattle.closed_ts.specs.Serving.{ServesByLease, ServesByClosure}
-use Rattle.run_words.specs.History.{Item, Ran, Ticked, Made, History}
+use Rattle.run_words.specs.History.{Item, Made, History}
 use Rattle.run_words.specs.Logs.{log_of, prefix}
 use Rattle.run_words.specs.Nodes.{boot}
 use Rattle.run_words.specs.Setup.{Setup}

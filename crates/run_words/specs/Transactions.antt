@@ -7,7 +7,7 @@ use Rattle.mr_base.specs.declared.settings.Kind.{Kind}
 use Rattle.journal.specs.declared.entries.JournalEntry.TheVariants as entry
 use Rattle.journal.specs.declared.events.Event.{Event}
 use Rattle.journal.specs.declared.events.Event.TheVariants as events
-use Rattle.run_words.specs.History.{Item, Ran, Ticked, Made, History}
+use Rattle.run_words.specs.History.{Item, Made, History}
 use Rattle.run_words.specs.Steps.{event_of}
 
 -- How a transaction began, and how far it is. (This project's profile.)

@@ -1,0 +1,4 @@
+pub mod AttemptLemmas
+pub mod HappenedLemmas
+pub mod LogLemmas
+pub mod MemberLemmas
