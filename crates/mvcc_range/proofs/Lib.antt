@@ -1,0 +1,2 @@
+mod FactLemmas
+mod KeyLemmas
