@@ -1,2 +1,3 @@
 mod FactLemmas
 mod KeyLemmas
+mod RecordLemmas

@@ -2,12 +2,13 @@
 
 ghost use Rattle.std.specs.Prelude.{◌≡◌, ◌∷◌, [], List, OnOk, OnErr, length};
 ghost use Rattle.mvcc_range.specs.Follows.{Follows};
+ghost use Rattle.mvcc_range.specs.Lookups.{IsStateOf};
 ghost use Rattle.range_log.specs.Facts.{closed_of, lease_of};
 ghost use Rattle.range_log.specs.declared.entries.Entry.{Entry};
 
 use crate::facts::Facts;
-use mr_base::{Memory, Ts};
-use range_log::{Entry, Lease};
+use mr_base::{AttemptId, Memory, Ts};
+use range_log::{Entry, Lease, TxnState};
 use std::alloc::Global;
 use std::marker::Model;
 
@@ -65,6 +66,13 @@ impl Replica {
         ensures { (entries : List Entry) → Follows self.now entries → result ≡ lease_of entries }
     {
         self.facts.lease
+    }
+
+    /// The record of an attempt; none where it has none.
+    pub fn state_of(&self, a: AttemptId) -> Option<TxnState>
+        ensures { (entries : List Entry) → Follows self.now entries → IsStateOf entries a result }
+    {
+        self.facts.states.get(&a).copied()
     }
 
     /// The greatest timestamp that was closed, the least of all where none was.
