@@ -55,8 +55,10 @@ module _ (key q : List ℕ) (old new : List (List ℕ × KeyValue)) (t : KeyValu
       ((r : Ts) → version_at r t ≡ cond (same_ts ts r) (Some value) (version_at r (state_at key old))) →
       ((state_at q new).intent ≡ (state_at q old).intent) × ((r : Ts) → version_at r (state_at q new) ≡ cond (same_key key q && same_ts ts r) (Some value) (version_at r (state_at q old)))
   added ts value i v = elim (key_or_not key q) as (λ _. ((state_at q new).intent ≡ (state_at q old).intent) × ((r : Ts) → version_at r (state_at q new) ≡ cond (same_key key q && same_ts ts r) (Some value) (version_at r (state_at q old)))) [
-    | inl k ↦ (ap (λ (s : KeyValue). s.intent) (here k.1) ∙ i ∙ ap (λ (p : List ℕ). (state_at p old).intent) k.1,
-        λ r. rw k.0 (ap (version_at r) (here k.1) ∙ v r ∙ ap (λ (p : List ℕ). cond (same_ts ts r) (Some value) (version_at r (state_at p old))) k.1))
+    | inl k ↦ (
+      ap (λ (s : KeyValue). s.intent) (here k.1) ∙ i ∙ ap (λ (p : List ℕ). (state_at p old).intent) k.1,
+      λ r. rw k.0 (ap (version_at r) (here k.1) ∙ v r ∙ ap (λ (p : List ℕ). cond (same_ts ts r) (Some value) (version_at r (state_at p old))) k.1),
+    )
     | inr k ↦ (ap (λ (s : KeyValue). s.intent) (elsewhere k.0), λ r. rw k.0 (ap (version_at r) (elsewhere k.0)))
   ]
 
@@ -66,8 +68,10 @@ module _ (key q : List ℕ) (old new : List (List ℕ × KeyValue)) (t : KeyValu
       ((state_at q new).intent ≡ cond (same_key key q) (intent_after a (state_at q old).intent) (state_at q old).intent)
       × ((r : Ts) → version_at r (state_at q new) ≡ cond (same_key key q) (value_after a fate r (state_at q old).intent (version_at r (state_at q old))) (version_at r (state_at q old)))
   resolved a fate i v = elim (key_or_not key q) as (λ _. ((state_at q new).intent ≡ cond (same_key key q) (intent_after a (state_at q old).intent) (state_at q old).intent) × ((r : Ts) → version_at r (state_at q new) ≡ cond (same_key key q) (value_after a fate r (state_at q old).intent (version_at r (state_at q old))) (version_at r (state_at q old)))) [
-    | inl k ↦ (rw k.0 (ap (λ (s : KeyValue). s.intent) (here k.1) ∙ i ∙ ap (λ (p : List ℕ). intent_after a (state_at p old).intent) k.1),
-        λ r. rw k.0 (ap (version_at r) (here k.1) ∙ v r ∙ ap (λ (p : List ℕ). value_after a fate r (state_at p old).intent (version_at r (state_at p old))) k.1))
+    | inl k ↦ (
+      rw k.0 (ap (λ (s : KeyValue). s.intent) (here k.1) ∙ i ∙ ap (λ (p : List ℕ). intent_after a (state_at p old).intent) k.1),
+      λ r. rw k.0 (ap (version_at r) (here k.1) ∙ v r ∙ ap (λ (p : List ℕ). value_after a fate r (state_at p old).intent (version_at r (state_at p old))) k.1),
+    )
     | inr k ↦ (rw k.0 (ap (λ (s : KeyValue). s.intent) (elsewhere k.0)), λ r. rw k.0 (ap (version_at r) (elsewhere k.0)))
   ]
 
@@ -89,9 +93,9 @@ pub unresolved : (key q : List ℕ) (old : List (List ℕ × KeyValue)) (a : Att
     × ((r : Ts) → version_at r (state_at q old) ≡ cond (same_key key q) (value_after a fate r (state_at q old).intent (version_at r (state_at q old))) (version_at r (state_at q old)))
 unresolved key q old a fate none = elim (key_or_not key q) as (λ _. ((state_at q old).intent ≡ cond (same_key key q) (intent_after a (state_at q old).intent) (state_at q old).intent)
     × ((r : Ts) → version_at r (state_at q old) ≡ cond (same_key key q) (value_after a fate r (state_at q old).intent (version_at r (state_at q old))) (version_at r (state_at q old)))) [
-  | inl k ↦ let empty : kept_at q old ≡ None = subst (λ (p : List ℕ). kept_at p old ≡ None) k.1 (sym none) in (rw (k.0, empty) refl, λ r. rw (k.0, empty) (no_intent fate r))
-  | inr k ↦ (rw k.0 refl, λ r. rw k.0 refl)
-]
+      | inl k ↦ let empty : kept_at q old ≡ None = subst (λ (p : List ℕ). kept_at p old ≡ None) k.1 (sym none) in (rw (k.0, empty) refl, λ r. rw (k.0, empty) (no_intent fate r))
+      | inr k ↦ (rw k.0 refl, λ r. rw k.0 refl)
+    ]
   where
     no_intent : (f : Fate) (r : Ts) → None ≡ value_after a f r None None
     no_intent (Committed ts) r = refl

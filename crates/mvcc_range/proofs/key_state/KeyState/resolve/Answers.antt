@@ -1,6 +1,6 @@
-use Rattle.std.proofs.Common.{rules, arith, ◌≡◌, true, Some, cond, ap, sym, ◌∙◌}
+use Rattle.std.proofs.Common.{rules, Some, cond, ap, ◌∙◌}
 use Rattle.mvcc_range.proofs.KeyLemmas.{committed_value}
-use Rattle.mvcc_range.specs.KeyFacts.{is_of, same_ts, version_at}
+use Rattle.mvcc_range.specs.KeyFacts.{same_ts, version_at}
 use Rattle.mvcc_range.specs.KeyValue.{KeyValue}
 use Rattle.mvcc_range.proofs.key_state.KeyState.resolve.Goals as goal
 
