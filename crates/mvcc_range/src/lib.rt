@@ -6,4 +6,5 @@ mod key_state;
 mod keys;
 mod replica;
 
+pub use key_state::Intent;
 pub use replica::Replica;

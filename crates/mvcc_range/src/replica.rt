@@ -2,14 +2,17 @@
 
 ghost use Rattle.std.specs.Prelude.{◌≡◌, ◌∷◌, [], List, OnOk, OnErr, length};
 ghost use Rattle.mvcc_range.specs.Follows.{Follows};
-ghost use Rattle.mvcc_range.specs.Lookups.{IsStateOf};
+ghost use Rattle.mvcc_range.specs.KeyFacts.{intent_of, state_at};
+ghost use Rattle.mvcc_range.specs.Lookups.{IsIntentAt, IsStateOf};
 ghost use Rattle.range_log.specs.Facts.{closed_of, lease_of};
 ghost use Rattle.range_log.specs.declared.entries.Entry.{Entry};
 
 use crate::facts::Facts;
-use mr_base::{AttemptId, Memory, Ts};
+use crate::key_state::{Intent, KeyState};
+use mr_base::{AttemptId, Bytes, Memory, Ts};
 use range_log::{Entry, Lease, TxnState};
 use std::alloc::Global;
+use std::collections::BTreeMap;
 use std::marker::Model;
 
 /// What follows from the entries that were applied: versions, intents, records, the last lease and what was
@@ -68,6 +71,13 @@ impl Replica {
         self.facts.lease
     }
 
+    /// The intent that stands at a key; none where none does.
+    pub fn intent(&self, key: &Bytes) -> Option<Intent>
+        ensures { (entries : List Entry) → Follows self.now entries → IsIntentAt entries key.now result }
+    {
+        intent_in(&self.facts.keys, key)
+    }
+
     /// The record of an attempt; none where it has none.
     pub fn state_of(&self, a: AttemptId) -> Option<TxnState>
         ensures { (entries : List Entry) → Follows self.now entries → IsStateOf entries a result }
@@ -87,5 +97,15 @@ impl Replica {
         ensures { (entries : List Entry) → Follows self.now entries → result ≡ length entries }
     {
         self.applied
+    }
+}
+
+/// The intent that is kept at a key.
+fn intent_in(keys: &BTreeMap<Bytes, KeyState>, key: &Bytes) -> Option<Intent>
+    ensures { result ≡ intent_of (state_at key.now keys.now.entries).intent }
+{
+    match keys.get(key) {
+        Some(state) => state.intent(),
+        None => None,
     }
 }
