@@ -4,6 +4,7 @@ use Rattle.mr_base.specs.Timestamps.{IsBelow}
 use Rattle.mr_base.specs.declared.ids.AttemptId.{AttemptId}
 use Rattle.mr_base.specs.declared.spans.Span.{Span}
 use Rattle.mr_base.specs.declared.timestamps.Ts.{Ts}
+use Rattle.mvcc_range.specs.declared.key_state.Intent.{Intent}
 use Rattle.range_log.specs.Facts.{HasIntent, HasRecord, HasVersion, Laid, Version}
 use Rattle.range_log.specs.declared.entries.Entry.{Entry}
 use Rattle.range_log.specs.declared.entries.TxnState.{TxnState}
@@ -21,12 +22,16 @@ IsNewestTs entries key answer =
     ((ts : Ts) → ¬ IsVersionTs entries key ts)
     (λ ts. IsVersionTs entries key ts × ((other : Ts) → IsVersionTs entries key other → ¬ IsBelow ts other))
 
+-- An intent with its value.
+abbrev pub laid_as : Intent → Option (List ℕ) → Laid
+laid_as i value = record { attempt = i.attempt; start = i.start; anchor = i.anchor; ts = i.ts; value = value }
+
 -- The intent at a key; none where none stands there.
-abbrev pub IsIntentAt : List Entry → List ℕ → Option Laid → Type 0
+abbrev pub IsIntentAt : List Entry → List ℕ → Option Intent → Type 0
 IsIntentAt entries key answer =
     MatchOption answer
     ((i : Laid) → ¬ HasIntent key i entries)
-    (λ i. HasIntent key i entries)
+    (λ i. (value : Option (List ℕ)) × HasIntent key (laid_as i value) entries)
 
 -- The record of an attempt; none where it has none.
 abbrev pub IsStateOf : List Entry → AttemptId → Option TxnState → Type 0

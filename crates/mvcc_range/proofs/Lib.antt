@@ -1,0 +1,4 @@
+mod FactLemmas
+mod IntentLemmas
+mod KeyLemmas
+mod RecordLemmas
