@@ -67,7 +67,7 @@ place_of_region : (rs : List (List ℕ)) (o : Option (List ℕ)) → 0 < length 
 place_of_region rs None h = h
 place_of_region rs (Some region) h = placed rs (position (bytes_eq region) rs) (λ i e. (position-Some (bytes_eq region) rs i [] e).0) h
 
-place_below : (b : Bool) (rs : List (List ℕ)) (o : Option (List ℕ)) → (b ≡ true → rs ≢ [])
+pub place_below : (b : Bool) (rs : List (List ℕ)) (o : Option (List ℕ)) → (b ≡ true → rs ≢ [])
     → unwrap_or (option_and_then (λ region. position (bytes_eq region) rs) (if b then o else None)) 0 < length (if b then map (λ r. Some r) rs else None ∷ [])
 place_below true rs o h =
     let some : 0 < length rs = some_length rs (h refl) in
@@ -88,7 +88,7 @@ got_has (y ∷ ys) zero x e = inl (cc)
 got_has (y ∷ ys) (suc i) x e = inr (got_has ys i x e)
 
 -- a REGIONAL BY ROW table has regions
-some_regions : (c : Contents) (n : Named) → IsSoundCatalog c → IsNamed c n → is_by_row n.table ≡ true → regions_of c n.table ≢ []
+pub some_regions : (c : Contents) (n : Named) → IsSoundCatalog c → IsNamed c n → is_by_row n.table ≡ true → regions_of c n.table ≢ []
 some_regions c n h i e =
     let r : IsSoundAmong c.databases n.table = each_has (IsSoundAmong c.databases) n.table c.tables (recursion_from_All (IsSoundAmong c.databases) c.tables h.tables) (got_has c.tables n.place n.table i.at) in
     subst (λ o. option_map_or (λ d. d.regions) o [] ≢ []) (sym r.1) (regions_by r.0.regions n.table.locality r.2.locality e)
