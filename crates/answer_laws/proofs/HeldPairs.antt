@@ -78,7 +78,7 @@ rows_apart l d place t v e = each_two (AreApart t) (d place) ((v.tables place t 
 
 -- ---- in a range of a table
 
-moved : (l : Layout) (d : PlainDatabase) (i j : ℕ) (t u : Table) (range : RangeId) (p : KeyValue) → i ≡ j → t ≡ u → InTable l d i t range p → InTable l d j u range p
+pub moved : (l : Layout) (d : PlainDatabase) (i j : ℕ) (t u : Table) (range : RangeId) (p : KeyValue) → i ≡ j → t ≡ u → InTable l d i t range p → InTable l d j u range p
 moved l d i j t u range p e f x = subst (λ (k : ℕ). InTable l d k u range p) e (subst (λ (w : Table). InTable l d i w range p) f x)
 
 -- a pair of a range of a table is of a row of this table

@@ -1,4 +1,5 @@
 pub mod AgreeingReads
+pub mod Effects
 pub mod Evaluations
 pub mod HeldPairs
 pub mod KeepsValid
@@ -15,6 +16,7 @@ pub mod Positions
 pub mod PutAll
 pub mod RangesOfTables
 pub mod RowOrder
+pub mod RowWrites
 pub mod Searches
 pub mod Statements
 pub mod TablePairs
