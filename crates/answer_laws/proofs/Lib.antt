@@ -19,9 +19,11 @@ pub mod RowOrder
 pub mod RowWrites
 pub mod Searches
 pub mod Statements
+pub mod StoredSearches
 pub mod TablePairs
 pub mod ThroughWrites
 pub mod TrackedWrites
 pub mod Twins
+pub mod WrittenChanges
 pub mod WrittenRanges
 pub mod WrittenValues
