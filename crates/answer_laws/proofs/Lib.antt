@@ -1,11 +1,14 @@
 pub mod AgreeingReads
 pub mod Effects
 pub mod Evaluations
+pub mod FixedByTerms
 pub mod HeldPairs
+pub mod HeldRows
 pub mod KeepsValid
 pub mod KeyedEntries
 pub mod LawsOfNeeds
 pub mod Lists
+pub mod MatchedRows
 pub mod Members
 pub mod MoreMembers
 pub mod NearFirst
