@@ -2,8 +2,10 @@ pub mod AgreeingReads
 pub mod Effects
 pub mod Evaluations
 pub mod FixedByTerms
+pub mod FoundRows
 pub mod HeldPairs
 pub mod HeldRows
+pub mod IndexSearches
 pub mod KeepsValid
 pub mod KeyedEntries
 pub mod LawsOfNeeds

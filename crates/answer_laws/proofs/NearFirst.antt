@@ -65,7 +65,7 @@ region_test : (region : List ℕ) (o : Option (List ℕ)) → option_map_or (byt
 region_test region None e = absurd (cc)
 region_test region (Some r) e = ap (λ (x : List ℕ). Some x) (sym ((bytes_eq-Decides region r).0 e))
 
-region_passes : (region : List ℕ) (o : Option (List ℕ)) → o ≡ Some region → option_map_or (bytes_eq region) o false ≡ true
+pub region_passes : (region : List ℕ) (o : Option (List ℕ)) → o ≡ Some region → option_map_or (bytes_eq region) o false ≡ true
 region_passes region o e = subst (λ x. option_map_or (bytes_eq region) x false ≡ true) (sym e) ((bytes_eq-Decides region region).1 refl)
 
 -- the near partition comes first

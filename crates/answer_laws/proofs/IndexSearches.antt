@@ -1,0 +1,235 @@
+-- Over all that a valid database holds, a search by an index finds the rows that match.
+use Rattle.std.proofs.Common.{◌≡◌, ℕ, Bool, true, false, List, [], ◌∷◌, length, refl, sym, ap, ◌∙◌, subst, inl, inr, arith}
+use Rattle.std.specs.Prelude.{◌≢◌, ◌==◌, ◌&&◌, if◌then◌else◌, filter, map, slice_get, flat_map, Option, Some, None, option_map, option_and_then, option_to_list, is_some}
+use Rattle.std.specs.List.{AllZip}
+use Rattle.std.proofs.lemmas.Bool.{eqb-true}
+use Rattle.mr_base.specs.declared.rows.Datum.{Datum}
+use Rattle.region_sql.specs.declared.row_statements.Term.{Term}
+use Rattle.descriptors.specs.Sound.{IsSoundTable}
+use Rattle.descriptors.specs.declared.table.Table.{Table}
+use Rattle.row_locality.specs.Keys.{index_key, index_types, primary_key}
+use Rattle.row_locality.specs.Pairs.{KeyValue}
+use Rattle.row_locality.specs.Plain.{Layout, PlainDatabase, IsSoundLayout, IsValid, Partition, partitions}
+use Rattle.row_locality.specs.Reading.{is_key_of, key_values, primary_of}
+use Rattle.row_locality.specs.Rows.{Fits, HasType, indexes, key_of, values_at}
+use Rattle.row_locality.specs.Spans.{is_in, point_of}
+use Rattle.row_locality.specs.Values.{value_of}
+use Rattle.row_locality.proofs.KeyPartLemmas.{key_values_again}
+use Rattle.row_locality.proofs.PointLemmas.{point_holds}
+use Rattle.row_locality.proofs.TypeLemmas.{key_typed, index_typed}
+use Rattle.sql_eval.specs.Evaluation.{KeyedRow, has_pair, ends_at, led_to, at_primary, followed_answers, matched_rows, found_rows}
+use Rattle.sql_eval.specs.Lookups.{index_for, near_first, searched_partitions, key_lookup, primary_lookup}
+use Rattle.sql_eval.specs.Reads.{stored_reads}
+use Rattle.sql_eval.specs.RowWords.{matches}
+use Rattle.sql_eval.specs.Search.{Evaluation, gives, ◌>>=◌, followed_by, Lookup, Answer, search as searched}
+use Rattle.answer_laws.proofs.FixedByTerms.{IsFoundBy, found_by_index}
+use Rattle.answer_laws.proofs.FoundRows.{has_near, near_has, searched_has, point_primary, tested_primary, led_by, led_when, has_some, some_has, found_by, ps, all, is_table, fits, home_searched, found_whole}
+use Rattle.answer_laws.proofs.HeldPairs.{rows_apart}
+use Rattle.answer_laws.proofs.HeldRows.{HeldRow, held_row, row_held}
+use Rattle.answer_laws.proofs.MatchedRows.{keyed, IsPrimarySpan, IsSearched, IsCovered, matched}
+use Rattle.answer_laws.proofs.Members.{Has}
+use Rattle.answer_laws.proofs.MoreMembers.{same_some, has_map, map_has, has_flat, flat_has}
+use Rattle.answer_laws.proofs.RangesOfTables.{home}
+use Rattle.answer_laws.proofs.RowOrder.{Row}
+use Rattle.answer_laws.proofs.StoredSearches.{held_at, answer_at, answered, search_stored, answer_is, all_answered, EndsAt, ends_somewhere}
+use Rattle.answer_laws.proofs.TablePairs.{IsPairIn, Meet, pair_in, index_value, rows_meet, one_row}
+
+-- ---- the key of a row is one of its index
+
+tested_key : (t : Table) (number : ℕ) (values : List Datum) → AllZip HasType (index_types t number) values → is_key_of t number (index_key number values) ≡ true
+tested_key t number values typed = ap (λ (o : Option (List Datum)). is_some o) (key_values_again t number values typed)
+
+-- where an option is there, it is the one member of its list
+option_has : {X : Type 0} (o : Option X) (x : X) → o ≡ Some x → Has x (option_to_list o)
+option_has None x e = absurd (cc)
+option_has (Some y) x e = inl (same_some e)
+
+has_option : {X : Type 0} (o : Option X) (x : X) → Has x (option_to_list o) → o ≡ Some x
+has_option None x h = absurd h
+has_option (Some y) x (inl e) = ap (λ z. Some z) e
+has_option (Some y) x (inr h) = absurd h
+
+mapped_back : {X Y : Type 0} (f : X → Y) (o : Option X) (y : Y) → option_map f o ≡ Some y → (x : X) × (o ≡ Some x) × (f x ≡ y)
+mapped_back f None y e = absurd (cc)
+mapped_back f (Some x) y e = (x, refl, same_some e)
+
+then_back : {X Y : Type 0} (f : X → Option Y) (o : Option X) (y : Y) → option_and_then f o ≡ Some y → (x : X) × (o ≡ Some x) × (f x ≡ Some y)
+then_back f None y e = absurd (cc)
+then_back f (Some x) y e = (x, refl, e)
+
+module _ (l : Layout) (d : PlainDatabase) (place : ℕ) (t : Table) (sound : IsSoundLayout l) (valid : IsValid l.catalog d) (at : slice_get l.catalog.tables place ≡ Some t)
+    (gateway : List ℕ) (terms : List Term) (x : ℕ × List Datum) (by : index_for t terms ≡ Some x) where
+  abbrev parts : List Partition
+  parts = ps l d place t sound valid at gateway terms
+
+  abbrev lookups : List Lookup
+  lookups = map (key_lookup x.0 x.1) (near_first gateway parts)
+
+  abbrev first : List Answer
+  first = answered l d (ends_at (Some x)) lookups
+
+  index_is : IsFoundBy t terms x
+  index_is = found_by_index t terms x (is_table l d place t sound valid at gateway terms) by
+
+  fits_row : (row : Row) → Has row (d place) → Fits t row
+  fits_row row h = fits l d place t sound valid at gateway terms row h
+
+  in_parts : (p : Partition) → Has p (near_first gateway parts) → Has p (partitions l place t)
+  in_parts p h = searched_has terms (partitions l place t) p (near_has gateway parts p h)
+
+  -- a row that matches has its pair in this index
+  row_pair : (row : Row) → matches t terms row ≡ true → IsPairIn t row (pair_in t row x.0 index_is.places)
+  row_pair row m = record { number = x.0; places = index_is.places; index = index_is.index; pair = refl }
+
+  key_is : (row : Row) → matches t terms row ≡ true → index_key x.0 (values_at index_is.places row) ≡ index_key x.0 x.1
+  key_is row m = ap (index_key x.0) (index_is.values row m)
+
+  -- the look-up at which the search of a row that matches ends: in the row's partition it holds the row's pair alone
+  record Ended (row : Row) : Type 0 where
+    partition : Partition
+    there : Has partition (near_first gateway parts)
+    home_is : home l place t row ≡ partition
+    answer : Has (answer_at l d (key_lookup x.0 x.1 partition)) first
+    pair : slice_get (held_at l d (key_lookup x.0 x.1 partition)) 0 ≡ Some (pair_in t row x.0 index_is.places)
+
+  same_row : (row : Row) (p : KeyValue) (y : Lookup) → Has row (d place) → matches t terms row ≡ true → (r : HeldRow l d place t y p) → p.0 ≡ index_key x.0 x.1
+      → (r.row ≡ row) × (p ≡ pair_in t row x.0 index_is.places)
+  same_row row p y h m r e =
+      let meet : Meet t r.row row p (pair_in t row x.0 index_is.places) =
+      rows_meet t r.row row p (pair_in t row x.0 index_is.places) (is_table l d place t sound valid at gateway terms) (fits_row r.row r.there) (fits_row row h) r.pair (row_pair row m) (e ∙ sym (key_is row m)) in
+      let same : r.row ≡ row = one_row t (d place) r.row row meet.number meet.places (rows_apart l d place t valid at) r.there h meet.index meet.values in
+      (same, meet.first ∙ ap (λ (z : Row). pair_in t z meet.number meet.places) same ∙ sym meet.second)
+
+  ended_at : (row : Row) → Has row (d place) → matches t terms row ≡ true → (p : Partition) → Has p (near_first gateway parts) → Has (answer_at l d (key_lookup x.0 x.1 p)) first
+      → has_pair (answer_at l d (key_lookup x.0 x.1 p)) ≡ true → Ended row
+  ended_at row h m p k a e =
+      let y : Lookup = key_lookup x.0 x.1 p in
+      let q = some_has y (held_at l d y) e in
+      let r : HeldRow l d place t y q.0 = held_row l d place t sound valid at y q.0 (in_parts p k) q.1 in
+      let key : q.0.0 ≡ index_key x.0 x.1 = (point_holds (index_key x.0 x.1) q.0.0).0 r.inside in
+      let same = same_row row q.0 y h m r key in
+      record {
+        partition = p;
+        there = k;
+        home_is = sym (ap (home l place t) same.0) ∙ r.home_is;
+        answer = a;
+        pair = q.2 ∙ ap (λ (z : KeyValue). Some z) same.1;
+      }
+
+  ended : (row : Row) → Has row (d place) → matches t terms row ≡ true → Ended row
+  ended row h m =
+      let own : Lookup = key_lookup x.0 x.1 (home l place t row) in
+      let k : Has (home l place t row) (near_first gateway parts) =
+      has_near gateway parts (home l place t row) (home_searched l d place t sound valid at gateway terms row h m) in
+      let p : Has (pair_in t row x.0 index_is.places) (held_at l d own) =
+      row_held l d place t sound valid at own row (pair_in t row x.0 index_is.places) h refl (row_pair row m) ((point_holds (index_key x.0 x.1) _).1 (key_is row m)) in
+      let last : EndsAt l d (ends_at (Some x)) lookups =
+      ends_somewhere l d (ends_at (Some x)) lookups own (has_map (key_lookup x.0 x.1) (near_first gateway parts) (home l place t row) k) (has_some own (held_at l d own) (pair_in t row x.0 index_is.places) p) in
+      let r = map_has (key_lookup x.0 x.1) (near_first gateway parts) last.last last.there in
+      ended_at row h m r.0 r.1 (subst (λ (y : Lookup). Has (answer_at l d y) first) (sym r.2) last.answer) (subst (λ (y : Lookup). has_pair (answer_at l d y) ≡ true) (sym r.2) last.ending)
+
+  -- ---- by the primary key
+
+  primary_searched : x.0 ≡ 0 → (a : Answer) → Has a first → IsSearched l d place t a
+  primary_searched z a h =
+      let r = answer_is l d (ends_at (Some x)) lookups a h in
+      let k = map_has (key_lookup x.0 x.1) (near_first gateway parts) r.0 r.1 in
+      record {
+        lookup = r.0;
+        answer = r.2;
+        partition = subst (λ (y : Lookup). Has y.partition (partitions l place t)) k.2 (in_parts k.0 k.1);
+        primary = subst (λ (y : Lookup). IsPrimarySpan y.span) k.2 (subst (λ (n : ℕ). IsPrimarySpan (point_of (index_key n x.1))) (sym z) (point_primary x.1));
+      }
+
+  zero_key : (n : ℕ) (places : List ℕ) (row : Row) → n ≡ 0 → slice_get (indexes t) n ≡ Some places → index_key n (values_at places row) ≡ primary_key t row
+  zero_key n places row z e =
+      let same : t.key ≡ places = same_some (subst (λ (m : ℕ). slice_get (indexes t) m ≡ Some places) z e) in
+      ap (λ (m : ℕ). index_key m (values_at places row)) z ∙ ap (λ (qs : List ℕ). index_key 0 (values_at qs row)) (sym same)
+
+  primary_covered : x.0 ≡ 0 → (row : Row) → Has row (d place) → matches t terms row ≡ true → IsCovered l d place t first row
+  primary_covered z row h m =
+      let e : Ended row = ended row h m in
+      record {
+        lookup = key_lookup x.0 x.1 e.partition;
+        there = e.answer;
+        home_is = e.home_is;
+        inside = (point_holds (index_key x.0 x.1) (primary_key t row)).1 (sym (zero_key x.0 index_is.places row z index_is.index) ∙ key_is row m);
+      }
+
+  -- ---- by a UNIQUE column
+
+  abbrev second : List Answer
+  second = answered l d (λ a. false) (at_primary t x.0 first)
+
+  second_searched : (a : Answer) → Has a second → IsSearched l d place t a
+  second_searched a h =
+      let r = answer_is l d (λ a. false) (at_primary t x.0 first) a h in
+      let k = flat_has (λ (b : Answer). option_to_list (led_to t x.0 b)) first r.0 r.1 in
+      let led = mapped_back (λ key. primary_lookup key k.0.0.partition) (option_and_then (primary_of t x.0) (slice_get k.0.1 0)) r.0 (has_option (led_to t x.0 k.0) r.0 k.2) in
+      let q = then_back (primary_of t x.0) (slice_get k.0.1 0) led.0 led.1 in
+      let tested = led_by (is_key_of t x.0 q.0.0) (is_key_of t 0 q.0.1) q.0.1 led.0 q.2 in
+      let is_primary : is_key_of t 0 led.0 ≡ true = subst (λ (key : List ℕ). is_key_of t 0 key ≡ true) tested.1 tested.0 in
+      let from = answer_is l d (ends_at (Some x)) lookups k.0 k.1 in
+      let by_key = map_has (key_lookup x.0 x.1) (near_first gateway parts) from.0 from.1 in
+      let partition_is : by_key.0 ≡ k.0.0.partition = ap (λ (y : Lookup). y.partition) by_key.2 ∙ sym (ap (λ (b : Answer). b.0.partition) from.2) in
+      record {
+        lookup = r.0;
+        answer = r.2;
+        partition = subst (λ (y : Lookup). Has y.partition (partitions l place t)) led.2 (subst (λ (p : Partition). Has p (partitions l place t)) partition_is (in_parts by_key.0 by_key.1));
+        primary = subst (λ (y : Lookup). IsPrimarySpan y.span) led.2 (tested_primary t led.0 is_primary);
+      }
+
+  leads : (row : Row) → Has row (d place) → (x.0 == 0) ≡ false → primary_of t x.0 (pair_in t row x.0 index_is.places) ≡ Some (primary_key t row)
+  leads row h z =
+      let value : index_value t row x.0 ≡ primary_key t row = ap (λ (b : Bool). if b then value_of t row else primary_key t row) z in
+      let s : IsSoundTable t = is_table l d place t sound valid at gateway terms in
+      ap (λ (v : List ℕ). primary_of t x.0 (index_key x.0 (values_at index_is.places row), v)) value
+      ∙ led_when (is_key_of t x.0 (index_key x.0 (values_at index_is.places row))) (is_key_of t 0 (primary_key t row)) (primary_key t row)
+      (tested_key t x.0 (values_at index_is.places row) (index_typed t row x.0 index_is.places s (fits_row row h) index_is.index))
+      (tested_key t 0 (key_of t row) (key_typed t row s (fits_row row h)))
+
+  second_covered : (x.0 == 0) ≡ false → (row : Row) → Has row (d place) → matches t terms row ≡ true → IsCovered l d place t second row
+  second_covered z row h m =
+      let e : Ended row = ended row h m in
+      let a : Answer = answer_at l d (key_lookup x.0 x.1 e.partition) in
+      let y : Lookup = primary_lookup (primary_key t row) e.partition in
+      let led : led_to t x.0 a ≡ Some y =
+      ap (λ (o : Option KeyValue). option_map (λ key. primary_lookup key e.partition) (option_and_then (primary_of t x.0) o)) e.pair
+      ∙ ap (option_map (λ key. primary_lookup key e.partition)) (leads row h z) in
+      let k : Has y (at_primary t x.0 first) = has_flat (λ (b : Answer). option_to_list (led_to t x.0 b)) first a y e.answer (option_has (led_to t x.0 a) y led) in
+      record {
+        lookup = y;
+        there = all_answered l d (at_primary t x.0 first) y k;
+        home_is = e.home_is;
+        inside = (point_holds (primary_key t row) (primary_key t row)).1 refl;
+      }
+
+  -- ---- both
+
+  found_if : (b : Bool) → (x.0 == 0) ≡ b
+      → ((if b then gives first else searched (stored_reads l d) (λ a. false) (at_primary t x.0 first)) >>= λ answers. gives (matched_rows t terms answers))
+      ≡ gives (all l d place t sound valid at gateway terms)
+  found_if true z =
+      ap (λ (rows : List KeyedRow). gives rows)
+      (matched l d place t sound valid at terms first (primary_searched (eqb-true x.0 0 z)) (primary_covered (eqb-true x.0 0 z)))
+  found_if false z =
+      ap (λ (e : Evaluation (List Answer)). e >>= λ answers. gives (matched_rows t terms answers)) (search_stored l d (λ a. false) (at_primary t x.0 first))
+      ∙ ap (λ (rows : List KeyedRow). gives rows) (matched l d place t sound valid at terms second second_searched (second_covered z))
+
+  pub found_indexed : found_by (stored_reads l d) t gateway (Some x) parts terms ≡ gives (all l d place t sound valid at gateway terms)
+  found_indexed =
+      ap (λ (e : Evaluation (List Answer)). followed_by 1 e >>= λ first. followed_answers (stored_reads l d) t (Some x) first >>= λ answers. gives (matched_rows t terms answers))
+      (search_stored l d (ends_at (Some x)) lookups)
+      ∙ found_if (x.0 == 0) refl
+
+module _ (l : Layout) (d : PlainDatabase) (place : ℕ) (t : Table) (sound : IsSoundLayout l) (valid : IsValid l.catalog d) (at : slice_get l.catalog.tables place ≡ Some t)
+    (gateway : List ℕ) (terms : List Term) where
+  found_either : (o : Option (ℕ × List Datum)) → index_for t terms ≡ o
+      → found_by (stored_reads l d) t gateway o (searched_partitions terms (partitions l place t)) terms ≡ gives (map (keyed t) (filter (matches t terms) (d place)))
+  found_either None e = found_whole l d place t sound valid at gateway terms
+  found_either (Some x) e = found_indexed l d place t sound valid at gateway terms x e
+
+  -- over all that a valid database holds, a search finds the rows that match
+  pub found : found_rows (stored_reads l d) t gateway (partitions l place t) terms ≡ gives (map (keyed t) (filter (matches t terms) (d place)))
+  unfolding found_rows
+  found = found_either (index_for t terms) refl
