@@ -3,6 +3,7 @@ pub mod Effects
 pub mod Evaluations
 pub mod FixedByTerms
 pub mod FoundRows
+pub mod FreeRows
 pub mod HeldPairs
 pub mod HeldRows
 pub mod IndexSearches
@@ -16,6 +17,7 @@ pub mod MoreMembers
 pub mod NearFirst
 pub mod NearSearches
 pub mod NeededSpans
+pub mod NewLookups
 pub mod Pairwise
 pub mod Positions
 pub mod PutAll
@@ -23,6 +25,7 @@ pub mod RangesOfTables
 pub mod RowOrder
 pub mod RowWrites
 pub mod Searches
+pub mod SharedValues
 pub mod Statements
 pub mod StoredSearches
 pub mod TablePairs
