@@ -22,6 +22,7 @@ pub mod Pairwise
 pub mod Positions
 pub mod PutAll
 pub mod RangesOfTables
+pub mod ReplacedRows
 pub mod RowOrder
 pub mod RowWrites
 pub mod Searches
