@@ -33,6 +33,7 @@ pub mod TablePairs
 pub mod ThroughWrites
 pub mod TrackedWrites
 pub mod Twins
+pub mod WholeLists
 pub mod WholeStatements
 pub mod WrittenChanges
 pub mod WrittenRanges
