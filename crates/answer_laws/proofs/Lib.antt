@@ -1,6 +1,11 @@
 pub mod AgreeingReads
+pub mod BuiltLists
+pub mod ChangedRows
+pub mod ColumnValues
 pub mod Effects
 pub mod Evaluations
+pub mod ExecutedLists
+pub mod FittingRows
 pub mod FixedByTerms
 pub mod FoundRows
 pub mod FreeRows
@@ -11,6 +16,7 @@ pub mod KeepsValid
 pub mod KeyedEntries
 pub mod LawsOfNeeds
 pub mod Lists
+pub mod MadeRows
 pub mod MatchedRows
 pub mod Members
 pub mod MoreMembers
@@ -18,6 +24,7 @@ pub mod NearFirst
 pub mod NearSearches
 pub mod NeededSpans
 pub mod NewLookups
+pub mod NoFaults
 pub mod Pairwise
 pub mod Positions
 pub mod PutAll
@@ -29,6 +36,7 @@ pub mod Searches
 pub mod SharedValues
 pub mod Statements
 pub mod StoredSearches
+pub mod TableColumns
 pub mod TablePairs
 pub mod ThroughWrites
 pub mod TrackedWrites

@@ -10,6 +10,7 @@ ghost use Rattle.sql_eval.specs.Laws.{
   NeedsAreOfTheTables,
   NearComesFirst,
   WritesAreOfTheTables,
+  ExecKeepsValid,
 };
 
 /// What a list gives stays, whatever more is known.
@@ -55,4 +56,9 @@ pub fn near_comes_first()
 /// Each key that a list writes is in a range of one of its tables.
 pub fn writes_are_of_the_tables()
     ensures { WritesAreOfTheTables }
+{}
+
+/// Under a sound catalog, executing a list whose texts are UTF-8 keeps a database valid.
+pub fn exec_keeps_valid()
+    ensures { ExecKeepsValid }
 {}
