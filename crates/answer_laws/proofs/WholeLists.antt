@@ -22,17 +22,13 @@ use Rattle.sql_eval.specs.Reads.{Reads, stored_reads}
 use Rattle.sql_eval.specs.RowWords.{◌>>=◌ as ◌then◌}
 use Rattle.sql_eval.specs.Search.{Evaluation, gives, faults, needs, ◌>>=◌, followed_by, of_result}
 use Rattle.answer_laws.proofs.AgreeingReads.{executed_if_whole}
-use Rattle.answer_laws.proofs.KeepsValid.{IsNamed, MakesRows, is_named}
+use Rattle.answer_laws.proofs.ExecutedLists.{makes_rows, sound_named}
+use Rattle.answer_laws.proofs.KeepsValid.{IsNamed, is_named}
 use Rattle.answer_laws.proofs.RowOrder.{Row}
 use Rattle.answer_laws.proofs.ThroughWrites.{through_writes}
 use Rattle.answer_laws.proofs.TrackedWrites.{Held, Tracks, no_writes}
 use Rattle.answer_laws.proofs.WholeStatements.{IsDone, Agrees, table_agrees}
 use Rattle.answer_laws.proofs.WrittenChanges.{are_changes}
-
--- the rows that a statement without a fault of its own makes are such as its table may hold
-abbrev pub RowsAreMade : Type 0
-RowsAreMade = (c : Contents) (n : Named) (gateway : List ℕ) (s : RowStatement) (rows : List Row) → IsSoundCatalog c → IsNamed c n → TextsAreUtf8 s
-    → check_fault n.table n.database s ≡ None → AreRowsOf c n.table rows → MakesRows c n gateway s rows
 
 -- ---- statements
 
@@ -60,14 +56,14 @@ lifted l d place (gives x) q h = record { after = with_rows d place h.rows; resu
 lifted l d place (faults code) q h = ap (in_place d place) h
 lifted l d place (needs ask phases asks) q h = tt
 
-module _ (made : RowsAreMade) (l : Layout) (gateway : List ℕ) (sound : IsSoundLayout l) where
+module _ (l : Layout) (gateway : List ℕ) (sound : IsSoundLayout l) where
   checked : (d : PlainDatabase) (s : RowStatement) (n : Named) (fault : Option SqlState) → IsValid l.catalog d → TextsAreUtf8 s → IsNamed l.catalog n
       → check_fault n.table n.database s ≡ fault
       → StatementAgrees l d (unless_faulty fault (table_outcome l gateway (stored_reads l d) n s)) (in_place d n.place (unless fault (on_rows n gateway s (d n.place))))
   checked d s n None valid texts named e =
       lifted l d n.place (table_outcome l gateway (stored_reads l d) n s) (on_rows n gateway s (d n.place))
       (table_agrees l d n gateway sound valid named s
-      (made l.catalog n gateway s (d n.place) sound.catalog named texts e (valid.tables n.place n.table named.at)))
+      (makes_rows l.catalog n gateway s (d n.place) (sound_named l.catalog n sound.catalog named) texts e (valid.tables n.place n.table named.at)))
   checked d s n (Some code) valid texts named e = refl
 
   in_table : (d : PlainDatabase) (s : RowStatement) (o : Option Named) → IsValid l.catalog d → TextsAreUtf8 s → named_table l.catalog (table_name s) ≡ o
@@ -139,24 +135,24 @@ module _ (made : RowsAreMade) (l : Layout) (gateway : List ℕ) (sound : IsSound
 
 -- ---- settings
 
-given : (s : Setting) (d : PlainDatabase) (made : RowsAreMade) (sound : IsSoundLayout s.layout) (e : Evaluation ListOutcome)
-    → ListAgrees made s.layout s.region sound (range_value s.layout d) e (exec s.layout.catalog s.region s.list d) → IsExecuted s d e
-given s d made sound (gives y) h = (h.after, h.result, are_changes s.layout d h.after y.own h.tracks)
-given s d made sound (faults code) h = h
-given s d made sound (needs ask phases asks) h = tt
+given : (s : Setting) (d : PlainDatabase) (sound : IsSoundLayout s.layout) (e : Evaluation ListOutcome)
+    → ListAgrees s.layout s.region sound (range_value s.layout d) e (exec s.layout.catalog s.region s.list d) → IsExecuted s d e
+given s d sound (gives y) h = (h.after, h.result, are_changes s.layout d h.after y.own h.tracks)
+given s d sound (faults code) h = h
+given s d sound (needs ask phases asks) h = tt
 
-whole_by : (s : Setting) (d : PlainDatabase) (made : RowsAreMade) (sound : IsSoundLayout s.layout) (r : Result (List RowStatement) SqlState) → HaveTexts r → IsValid s.layout.catalog d
-    → ListAgrees made s.layout s.region sound (range_value s.layout d) (of_result r >>= λ list. list_outcome s.layout s.region (stored_reads s.layout d) [] list)
+whole_by : (s : Setting) (d : PlainDatabase) (sound : IsSoundLayout s.layout) (r : Result (List RowStatement) SqlState) → HaveTexts r → IsValid s.layout.catalog d
+    → ListAgrees s.layout s.region sound (range_value s.layout d) (of_result r >>= λ list. list_outcome s.layout s.region (stored_reads s.layout d) [] list)
     (exec s.layout.catalog s.region r d)
 unfolding exec
-whole_by s d made sound (Ok list) texts valid =
-    list_agrees made s.layout s.region sound d d [] list valid (recursion_from_All TextsAreUtf8 list texts) (no_writes (range_value s.layout d))
-whole_by s d made sound (Err code) texts valid = refl
+whole_by s d sound (Ok list) texts valid =
+    list_agrees s.layout s.region sound d d [] list valid (recursion_from_All TextsAreUtf8 list texts) (no_writes (range_value s.layout d))
+whole_by s d sound (Err code) texts valid = refl
 
-whole_executed : (made : RowsAreMade) (s : Setting) (d : PlainDatabase) → IsSoundSetting s → IsValid s.layout.catalog d → IsExecuted s d (evaluation s (stored_reads s.layout d))
+whole_executed : (s : Setting) (d : PlainDatabase) → IsSoundSetting s → IsValid s.layout.catalog d → IsExecuted s d (evaluation s (stored_reads s.layout d))
 unfolding evaluation
-whole_executed made s d sound valid = given s d made sound.layout (evaluation s (stored_reads s.layout d)) (whole_by s d made sound.layout s.list sound.texts valid)
+whole_executed s d sound valid = given s d sound.layout (evaluation s (stored_reads s.layout d)) (whole_by s d sound.layout s.list sound.texts valid)
 
 -- what a list comes to is what executing it gives
-pub evaluation_executed : RowsAreMade → EvaluationIsExecuted
-evaluation_executed made = executed_if_whole (whole_executed made)
+pub evaluation_executed : EvaluationIsExecuted
+evaluation_executed = executed_if_whole whole_executed

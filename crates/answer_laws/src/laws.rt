@@ -11,6 +11,7 @@ ghost use Rattle.sql_eval.specs.Laws.{
   NearComesFirst,
   WritesAreOfTheTables,
   ExecKeepsValid,
+  EvaluationIsExecuted,
 };
 
 /// What a list gives stays, whatever more is known.
@@ -61,4 +62,10 @@ pub fn writes_are_of_the_tables()
 /// Under a sound catalog, executing a list whose texts are UTF-8 keeps a database valid.
 pub fn exec_keeps_valid()
     ensures { ExecKeepsValid }
+{}
+
+/// What a list comes to over the spans that were fed is what executing it gives on every valid database that
+/// agrees with them: the same answers and exactly the changes, or the same fault.
+pub fn evaluation_is_executed()
+    ensures { EvaluationIsExecuted }
 {}
