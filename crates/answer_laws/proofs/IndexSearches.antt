@@ -53,10 +53,6 @@ mapped_back : {X Y : Type 0} (f : X → Y) (o : Option X) (y : Y) → option_map
 mapped_back f None y e = absurd (cc)
 mapped_back f (Some x) y e = (x, refl, same_some e)
 
-then_back : {X Y : Type 0} (f : X → Option Y) (o : Option X) (y : Y) → option_and_then f o ≡ Some y → (x : X) × (o ≡ Some x) × (f x ≡ Some y)
-then_back f None y e = absurd (cc)
-then_back f (Some x) y e = (x, refl, e)
-
 module _ (l : Layout) (d : PlainDatabase) (place : ℕ) (t : Table) (sound : IsSoundLayout l) (valid : IsValid l.catalog d) (at : slice_get l.catalog.tables place ≡ Some t)
     (gateway : List ℕ) (terms : List Term) (x : ℕ × List Datum) (by : index_for t terms ≡ Some x) where
   abbrev parts : List Partition
@@ -116,6 +112,11 @@ module _ (l : Layout) (d : PlainDatabase) (place : ℕ) (t : Table) (sound : IsS
         pair = q.2 ∙ ap (λ (z : KeyValue). Some z) same.1;
       }
 
+  ended_from : (row : Row) → Has row (d place) → matches t terms row ≡ true → (y : Lookup) → (p : Partition) × Has p (near_first gateway parts) × (key_lookup x.0 x.1 p ≡ y)
+      → Has (answer_at l d y) first → has_pair (answer_at l d y) ≡ true → Ended row
+  ended_from row h m y (p, k, q) a e =
+      ended_at row h m p k (subst (λ (z : Lookup). Has (answer_at l d z) first) (sym q) a) (subst (λ (z : Lookup). has_pair (answer_at l d z) ≡ true) (sym q) e)
+
   ended : (row : Row) → Has row (d place) → matches t terms row ≡ true → Ended row
   ended row h m =
       let own : Lookup = key_lookup x.0 x.1 (home l place t row) in
@@ -125,8 +126,7 @@ module _ (l : Layout) (d : PlainDatabase) (place : ℕ) (t : Table) (sound : IsS
       row_held l d place t sound valid at own row (pair_in t row x.0 index_is.places) h refl (row_pair row m) ((point_holds (index_key x.0 x.1) _).1 (key_is row m)) in
       let last : EndsAt l d (ends_at (Some x)) lookups =
       ends_somewhere l d (ends_at (Some x)) lookups own (has_map (key_lookup x.0 x.1) (near_first gateway parts) (home l place t row) k) (has_some own (held_at l d own) (pair_in t row x.0 index_is.places) p) in
-      let r = map_has (key_lookup x.0 x.1) (near_first gateway parts) last.last last.there in
-      ended_at row h m r.0 r.1 (subst (λ (y : Lookup). Has (answer_at l d y) first) (sym r.2) last.answer) (subst (λ (y : Lookup). has_pair (answer_at l d y) ≡ true) (sym r.2) last.ending)
+      ended_from row h m last.last (map_has (key_lookup x.0 x.1) (near_first gateway parts) last.last last.there) last.answer last.ending
 
   -- ---- by the primary key
 
@@ -161,23 +161,41 @@ module _ (l : Layout) (d : PlainDatabase) (place : ℕ) (t : Table) (sound : IsS
   abbrev second : List Answer
   second = answered l d (λ a. false) (at_primary t x.0 first)
 
+  -- the answers of the first search are of partitions of the table
+  first_partition : (b : Answer) → Has b first → Has b.0.partition (partitions l place t)
+  first_partition b h = of_lookup (answer_is l d (ends_at (Some x)) lookups b h)
+    where
+      of_partition : (y : Lookup) → (p : Partition) × Has p (near_first gateway parts) × (key_lookup x.0 x.1 p ≡ y) → Has y.partition (partitions l place t)
+      of_partition y (p, k, q) = subst (λ (z : Lookup). Has z.partition (partitions l place t)) q (in_parts p k)
+
+      of_lookup : (y : Lookup) × Has y lookups × (b ≡ answer_at l d y) → Has b.0.partition (partitions l place t)
+      of_lookup (y, k, q) =
+          subst (λ (a : Answer). Has a.0.partition (partitions l place t)) (sym q) (of_partition y (map_has (key_lookup x.0 x.1) (near_first gateway parts) y k))
+
+  tested_key_of : (p : KeyValue) (key : List ℕ) → primary_of t x.0 p ≡ Some key → is_key_of t 0 key ≡ true
+  tested_key_of p key e = let r = led_by (is_key_of t x.0 p.0) (is_key_of t 0 p.1) p.1 key e in subst (λ (k : List ℕ). is_key_of t 0 k ≡ true) r.1 r.0
+
+  primary_led : (o : Option KeyValue) (key : List ℕ) → option_and_then (primary_of t x.0) o ≡ Some key → is_key_of t 0 key ≡ true
+  primary_led None key e = absurd (cc)
+  primary_led (Some p) key e = tested_key_of p key e
+
+  led_searched : (b : Answer) (y : Lookup) → Has b first → (key : List ℕ) × (option_and_then (primary_of t x.0) (slice_get b.1 0) ≡ Some key) × (primary_lookup key b.0.partition ≡ y)
+      → Has y.partition (partitions l place t) × IsPrimarySpan y.span
+  led_searched b y h (key, e, q) = (
+    subst (λ (z : Lookup). Has z.partition (partitions l place t)) q (first_partition b h),
+    subst (λ (z : Lookup). IsPrimarySpan z.span) q (tested_primary t key (primary_led (slice_get b.1 0) key e)),
+  )
+
+  second_lookup : (y : Lookup) → (b : Answer) × Has b first × Has y (option_to_list (led_to t x.0 b)) → Has y.partition (partitions l place t) × IsPrimarySpan y.span
+  second_lookup y (b, h, k) =
+      led_searched b y h (mapped_back (λ key. primary_lookup key b.0.partition) (option_and_then (primary_of t x.0) (slice_get b.1 0)) y (has_option (led_to t x.0 b) y k))
+
   second_searched : (a : Answer) → Has a second → IsSearched l d place t a
   second_searched a h =
       let r = answer_is l d (λ a. false) (at_primary t x.0 first) a h in
-      let k = flat_has (λ (b : Answer). option_to_list (led_to t x.0 b)) first r.0 r.1 in
-      let led = mapped_back (λ key. primary_lookup key k.0.0.partition) (option_and_then (primary_of t x.0) (slice_get k.0.1 0)) r.0 (has_option (led_to t x.0 k.0) r.0 k.2) in
-      let q = then_back (primary_of t x.0) (slice_get k.0.1 0) led.0 led.1 in
-      let tested = led_by (is_key_of t x.0 q.0.0) (is_key_of t 0 q.0.1) q.0.1 led.0 q.2 in
-      let is_primary : is_key_of t 0 led.0 ≡ true = subst (λ (key : List ℕ). is_key_of t 0 key ≡ true) tested.1 tested.0 in
-      let from = answer_is l d (ends_at (Some x)) lookups k.0 k.1 in
-      let by_key = map_has (key_lookup x.0 x.1) (near_first gateway parts) from.0 from.1 in
-      let partition_is : by_key.0 ≡ k.0.0.partition = ap (λ (y : Lookup). y.partition) by_key.2 ∙ sym (ap (λ (b : Answer). b.0.partition) from.2) in
-      record {
-        lookup = r.0;
-        answer = r.2;
-        partition = subst (λ (y : Lookup). Has y.partition (partitions l place t)) led.2 (subst (λ (p : Partition). Has p (partitions l place t)) partition_is (in_parts by_key.0 by_key.1));
-        primary = subst (λ (y : Lookup). IsPrimarySpan y.span) led.2 (tested_primary t led.0 is_primary);
-      }
+      let both : Has r.0.partition (partitions l place t) × IsPrimarySpan r.0.span =
+      second_lookup r.0 (flat_has (λ (b : Answer). option_to_list (led_to t x.0 b)) first r.0 r.1) in
+      record { lookup = r.0; answer = r.2; partition = both.0; primary = both.1 }
 
   leads : (row : Row) → Has row (d place) → (x.0 == 0) ≡ false → primary_of t x.0 (pair_in t row x.0 index_is.places) ≡ Some (primary_key t row)
   leads row h z =
