@@ -1,6 +1,6 @@
 -- What a statement writes leads from what a database holds to what the next one holds.
-use Rattle.std.proofs.Common.{◌≡◌, ℕ, Bool, true, false, List, [], ◌∷◌, ◌++◌, refl, sym, ap, ◌∙◌, subst, inl, inr}
-use Rattle.std.specs.Prelude.{◌≢◌, ◌⊎◌, ◌==◌, if◌then◌else◌, slice_get, Option, Some, None}
+use Rattle.std.proofs.Common.{◌≡◌, ℕ, Bool, List, ◌++◌, refl, sym, ap, ◌∙◌, subst, inl, inr}
+use Rattle.std.specs.Prelude.{◌≢◌, ◌⊎◌, if◌then◌else◌, slice_get, Option, Some, None}
 use Rattle.std.proofs.lemmas.Bool.{cases_eq, eq-eqb, ne_eqb}
 use Rattle.mr_base.specs.declared.ids.RangeId.{RangeId}
 use Rattle.descriptors.specs.Sound.{IsSoundTable}
@@ -11,15 +11,15 @@ use Rattle.row_locality.specs.Rows.{Fits}
 use Rattle.sql_eval.specs.Agreement.{range_value}
 use Rattle.sql_eval.specs.Execution.{with_rows}
 use Rattle.sql_eval.specs.OwnWrites.{OwnWrite, OwnWrites, Place, removal, addition, with_writes}
-use Rattle.answer_laws.proofs.HeldPairs.{InTable, Lives, row_is, rows_apart, moved, of_table, one_in_table, value_lives, live_value, table_value, held_in_table}
+use Rattle.answer_laws.proofs.HeldPairs.{InTable, Lives, row_is, moved, one_in_table, value_lives, live_value, table_value, held_in_table}
 use Rattle.answer_laws.proofs.Members.{Has}
 use Rattle.answer_laws.proofs.MoreMembers.{same_some, same_option}
 use Rattle.answer_laws.proofs.Pairwise.{EachTwo}
 use Rattle.answer_laws.proofs.RangesOfTables.{IsRangeIn, row_range, table_sound}
 use Rattle.answer_laws.proofs.RowOrder.{Row}
-use Rattle.answer_laws.proofs.RowWrites.{row_writes, IsWriteOf, write_of, write_there, writes_apart}
-use Rattle.answer_laws.proofs.TablePairs.{IsPairIn, pair_in, pair_there, rows_meet, apart_not}
-use Rattle.answer_laws.proofs.TrackedWrites.{Held, Tracks, all_written, AreWrites, AtOthers, place_of, tracked_as, all_tracked, elsewhere, there, each_knows, written_twice, both_know, at_or_not}
+use Rattle.answer_laws.proofs.RowWrites.{row_writes, write_of, write_there, writes_apart}
+use Rattle.answer_laws.proofs.TablePairs.{IsPairIn, pair_there, rows_meet, apart_not}
+use Rattle.answer_laws.proofs.TrackedWrites.{Held, Tracks, all_written, AtOthers, place_of, tracked_as, all_tracked, elsewhere, there, each_knows, written_twice, both_know, at_or_not}
 
 -- ---- the rows of one table in place of others
 

@@ -1,13 +1,13 @@
 -- What the terms of WHERE fix of a row that matches.
-use Rattle.std.proofs.Common.{◌≡◌, ℕ, zero, suc, ◌+◌, ◌<◌, Bool, true, false, cond, List, [], ◌∷◌, ◌++◌, length, refl, sym, ap, ◌∙◌, subst, inl, inr, arith}
-use Rattle.std.specs.Prelude.{◌≢◌, ◌&&◌, if◌then◌else◌, find, map, position, slice_get, get_or, All, Option, Some, None, option_map, option_and_then, codes}
+use Rattle.std.proofs.Common.{◌≡◌, ℕ, zero, suc, Bool, true, false, cond, List, [], ◌∷◌, ◌++◌, length, refl, sym, ap, ◌∙◌, subst, inl, inr, arith}
+use Rattle.std.specs.Prelude.{◌≢◌, ◌&&◌, if◌then◌else◌, find, map, position, slice_get, get_or, All, Option, Some, None, option_map, option_and_then}
 use Rattle.std.specs.List.{AllByRecursion, list_all, enumerate_from}
 use Rattle.std.specs.Option.{option_map_or, option_or}
 use Rattle.std.specs.Ordering.{is_eq}
 use Rattle.std.specs.Str.{bytes_eq}
 use Rattle.std.specs.Cmp.{Equal-is}
 use Rattle.std.specs.declared.cmp.Ordering.{Ordering}
-use Rattle.std.proofs.lemmas.Bool.{and_parts, cases_Bool}
+use Rattle.std.proofs.lemmas.Bool.{and_parts}
 use Rattle.std.proofs.lemmas.List.{append-nil}
 use Rattle.std.proofs.lemmas.List.Elements.{recursion_from_All}
 use Rattle.std.proofs.lemmas.List.Quantifiers.{position-Some}
@@ -20,7 +20,7 @@ use Rattle.region_sql.specs.declared.row_statements.Comparison.TheVariants as co
 use Rattle.region_sql.specs.declared.row_statements.Term.{Term}
 use Rattle.descriptors.specs.Sound.{IsSoundTable}
 use Rattle.descriptors.specs.declared.table.Table.{Table}
-use Rattle.row_locality.specs.Rows.{datum_cmp, all_columns, indexes, is_by_row, region_column, region_of, text_of, values_at}
+use Rattle.row_locality.specs.Rows.{datum_cmp, indexes, is_by_row, region_column, region_of, text_of, values_at}
 use Rattle.row_locality.proofs.DatumOrder.{datum_cmp_exact}
 use Rattle.sql_eval.specs.Lookups.{is_equality, fixed_value, fixed_region, fixed_value_at, fixed_values, first_fixed, index_for}
 use Rattle.sql_eval.specs.RowWords.{place_of, value_in, datum_of, compares, holds, matches}

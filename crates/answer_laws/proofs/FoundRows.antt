@@ -1,38 +1,33 @@
 -- Over all that a valid database holds, a search finds the rows that match.
-use Rattle.std.proofs.Common.{◌≡◌, ℕ, Bool, true, false, List, [], ◌∷◌, ◌++◌, length, refl, sym, ap, ◌∙◌, subst, inl, inr, arith}
-use Rattle.std.specs.Prelude.{◌⊎◌, ◌≢◌, ◌==◌, ◌&&◌, not, if◌then◌else◌, filter, map, slice_get, Option, Some, None, option_map, option_and_then, option_to_list, is_some}
+use Rattle.std.proofs.Common.{◌≡◌, ℕ, Bool, true, false, List, [], ◌∷◌, length, refl, sym, ap, ◌∙◌, subst, inl, inr, arith}
+use Rattle.std.specs.Prelude.{◌⊎◌, ◌==◌, ◌&&◌, not, if◌then◌else◌, filter, map, slice_get, Option, Some, None, is_some}
 use Rattle.std.specs.Option.{option_map_or}
-use Rattle.std.specs.Str.{bytes_eq}
-use Rattle.std.proofs.lemmas.Bool.{and_parts, eqb-true, ne_eqb, cases_Bool}
+use Rattle.std.proofs.lemmas.Bool.{eqb-true, ne_eqb}
 use Rattle.mr_base.specs.declared.rows.Datum.{Datum}
 use Rattle.region_sql.specs.declared.row_statements.Term.{Term}
 use Rattle.descriptors.specs.Sound.{IsSoundTable}
 use Rattle.descriptors.specs.declared.table.Table.{Table}
-use Rattle.row_locality.specs.Keys.{index_key, index_types, primary_key}
+use Rattle.row_locality.specs.Keys.{index_key}
 use Rattle.row_locality.specs.Pairs.{KeyValue}
 use Rattle.row_locality.specs.Plain.{Layout, PlainDatabase, IsSoundLayout, IsValid, IsRowOf, Partition, partitions}
-use Rattle.row_locality.specs.Reading.{is_key_of, key_values, primary_of}
-use Rattle.row_locality.specs.Rows.{Fits, indexes, key_of, region_of, values_at}
-use Rattle.row_locality.specs.Spans.{is_in, point_of, all_rows}
-use Rattle.row_locality.specs.Values.{value_of}
-use Rattle.row_locality.proofs.KeyPartLemmas.{key_values_again}
+use Rattle.row_locality.specs.Reading.{is_key_of, key_values}
+use Rattle.row_locality.specs.Rows.{Fits}
+use Rattle.row_locality.specs.Spans.{point_of, all_rows}
 use Rattle.row_locality.proofs.PointLemmas.{point_holds, in_all_rows}
-use Rattle.row_locality.proofs.TypeLemmas.{key_typed, index_typed}
-use Rattle.sql_eval.specs.Evaluation.{KeyedRow, has_pair, ends_at, led_to, at_primary, followed_answers, matched_rows, found_rows}
-use Rattle.sql_eval.specs.Lookups.{fixed_region, index_for, is_in_region, near_first, searched_partitions, key_lookup, primary_lookup, whole_partition, row_lookups}
+use Rattle.sql_eval.specs.Evaluation.{KeyedRow, has_pair, ends_at, followed_answers, matched_rows}
+use Rattle.sql_eval.specs.Lookups.{fixed_region, is_in_region, near_first, searched_partitions, whole_partition, row_lookups}
 use Rattle.sql_eval.specs.Reads.{Reads, stored_reads}
 use Rattle.sql_eval.specs.RowWords.{matches}
 use Rattle.sql_eval.specs.Search.{Evaluation, gives, ◌>>=◌, followed_by, Lookup, Answer, search as searched}
-use Rattle.answer_laws.proofs.FixedByTerms.{IsFoundBy, found_by_index, region_is}
-use Rattle.answer_laws.proofs.HeldPairs.{row_is, rows_apart}
-use Rattle.answer_laws.proofs.HeldRows.{HeldRow, held_row, row_held, row_home}
+use Rattle.answer_laws.proofs.FixedByTerms.{region_is}
+use Rattle.answer_laws.proofs.HeldPairs.{row_is}
+use Rattle.answer_laws.proofs.HeldRows.{row_home}
 use Rattle.answer_laws.proofs.MatchedRows.{keyed, IsPrimarySpan, IsSearched, IsCovered, matched}
 use Rattle.answer_laws.proofs.Members.{Has, has_filter, filter_has}
-use Rattle.answer_laws.proofs.MoreMembers.{same_some, append_has, has_first, has_second, has_map, map_has, has_flat, flat_has}
+use Rattle.answer_laws.proofs.MoreMembers.{same_some, append_has, has_first, has_second, has_map, map_has}
 use Rattle.answer_laws.proofs.RangesOfTables.{home, table_sound}
 use Rattle.answer_laws.proofs.RowOrder.{Row}
-use Rattle.answer_laws.proofs.StoredSearches.{held_at, answer_at, answered, search_stored, answer_is, all_answered, EndsAt, ends_somewhere}
-use Rattle.answer_laws.proofs.TablePairs.{IsPairIn, Meet, pair_in, index_value, rows_meet, one_row}
+use Rattle.answer_laws.proofs.StoredSearches.{answered, search_stored, answer_is, all_answered}
 use Rattle.answer_laws.proofs.NearFirst.{region_passes}
 
 -- ---- partitions of a search

@@ -1,6 +1,6 @@
 -- Over all that a valid database holds, the look-ups of new rows meet another row where they share a value with
 -- one that stays.
-use Rattle.std.proofs.Common.{◌≡◌, ℕ, Bool, true, false, List, [], ◌∷◌, ◌++◌, refl, sym, ap, ◌∙◌, subst, inl, inr}
+use Rattle.std.proofs.Common.{◌≡◌, ℕ, Bool, true, false, List, ◌∷◌, ◌++◌, refl, sym, ap, ◌∙◌, subst, inl, inr}
 use Rattle.std.specs.Prelude.{◌⊎◌, ◌==◌, ◌||◌, if◌then◌else◌, slice_get, Option, Some, None, is_none}
 use Rattle.std.specs.FinMap.Entries.{find}
 use Rattle.std.specs.List.{list_any}
@@ -12,14 +12,14 @@ use Rattle.row_locality.specs.Keys.{index_key, primary_key}
 use Rattle.row_locality.specs.Pairs.{KeyValue, bytes_cmp}
 use Rattle.row_locality.specs.Plain.{Layout, PlainDatabase, IsSoundLayout, IsValid, IsRowOf, AreApart, Partition, partitions}
 use Rattle.row_locality.specs.Rows.{Fits, indexes, values_at}
-use Rattle.row_locality.specs.Spans.{is_in, point_of}
+use Rattle.row_locality.specs.Spans.{is_in}
 use Rattle.row_locality.specs.Values.{value_of}
 use Rattle.row_locality.proofs.PointLemmas.{point_holds}
 use Rattle.sql_eval.specs.Evaluation.{KeyedRow, named_by, meets_other, if_free}
 use Rattle.sql_eval.specs.Lookups.{key_lookup}
 use Rattle.sql_eval.specs.Reads.{stored_reads}
 use Rattle.sql_eval.specs.RowWords.{has_twins}
-use Rattle.sql_eval.specs.Search.{Evaluation, gives, faults, ◌>>=◌, Lookup, Answer, search as searched}
+use Rattle.sql_eval.specs.Search.{Evaluation, gives, faults, ◌>>=◌, Lookup, Answer}
 use Rattle.answer_laws.proofs.HeldPairs.{row_is}
 use Rattle.answer_laws.proofs.HeldRows.{HeldRow, held_row, row_held}
 use Rattle.answer_laws.proofs.Members.{Has}
@@ -28,8 +28,8 @@ use Rattle.answer_laws.proofs.Pairwise.{EachTwo}
 use Rattle.answer_laws.proofs.RangesOfTables.{home, table_sound}
 use Rattle.answer_laws.proofs.RowOrder.{Row}
 use Rattle.answer_laws.proofs.SharedValues.{Shares, Cross, append_twins, later_twins, cross_twins, no_twins}
-use Rattle.answer_laws.proofs.StoredSearches.{held_at, answer_at, answered, search_stored, any_answered}
-use Rattle.answer_laws.proofs.TablePairs.{IsPairIn, Meet, pair_in, index_value, rows_meet}
+use Rattle.answer_laws.proofs.StoredSearches.{held_at, answer_at, search_stored, any_answered}
+use Rattle.answer_laws.proofs.TablePairs.{IsPairIn, Meet, pair_in, rows_meet}
 
 -- ---- the primary key that a pair names
 

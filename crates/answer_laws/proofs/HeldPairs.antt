@@ -1,7 +1,7 @@
 -- What a valid database holds at a key of a range is the pair of a row of one table.
-use Rattle.std.proofs.Common.{◌≡◌, ℕ, Bool, true, false, List, [], ◌∷◌, refl, sym, ap, ◌∙◌, subst, arith}
+use Rattle.std.proofs.Common.{◌≡◌, ℕ, Bool, true, false, List, [], refl, sym, ap, ◌∙◌, subst, arith}
 use Rattle.std.specs.Prelude.{◌==◌, if◌then◌else◌, flat_map, slice_get, Some}
-use Rattle.std.specs.List.{AllByRecursion, enumerate_from}
+use Rattle.std.specs.List.{enumerate_from}
 use Rattle.std.proofs.lemmas.Bool.{eqb-true, eq-eqb}
 use Rattle.std.proofs.lemmas.List.Elements.{recursion_from_All}
 use Rattle.mr_base.specs.declared.ids.RangeId.{RangeId}
@@ -15,7 +15,7 @@ use Rattle.answer_laws.proofs.Pairwise.{EachTwo, each_two}
 use Rattle.answer_laws.proofs.PutAll.{held_pair, pair_held}
 use Rattle.answer_laws.proofs.RangesOfTables.{IsRangeIn, one_table, row_range, table_sound}
 use Rattle.answer_laws.proofs.RowOrder.{Row}
-use Rattle.answer_laws.proofs.TablePairs.{IsPairIn, pair_in, pair_number, pair_there, one_pair}
+use Rattle.answer_laws.proofs.TablePairs.{IsPairIn, pair_number, pair_there, one_pair}
 use Rattle.answer_laws.proofs.TrackedWrites.{same_number}
 
 -- a pair of a row of this table that lives in a range

@@ -1,13 +1,12 @@
 -- The rows of which look-ups in the partitions of a table hold pairs, over all that a valid database holds.
-use Rattle.std.proofs.Common.{◌≡◌, ℕ, Bool, true, false, cond, List, [], ◌∷◌, refl, sym, ap, ◌∙◌, subst}
+use Rattle.std.proofs.Common.{◌≡◌, ℕ, Bool, true, false, cond, refl, sym, ap, ◌∙◌}
 use Rattle.std.specs.Prelude.{slice_get, Option, Some, None}
 use Rattle.std.specs.Cmp.Lexicographic.{nat_list_cmp_total}
 use Rattle.std.specs.FinMap.Entries.{find}
 use Rattle.std.proofs.lemmas.Map.Lookups.{exact_bytes}
-use Rattle.mr_base.specs.declared.ids.RangeId.{RangeId}
 use Rattle.descriptors.specs.declared.table.Table.{Table}
 use Rattle.row_locality.specs.Pairs.{KeyValue, bytes_cmp}
-use Rattle.row_locality.specs.Plain.{Layout, PlainDatabase, IsSoundLayout, IsValid, IsRowOf, Partition, partitions}
+use Rattle.row_locality.specs.Plain.{Layout, PlainDatabase, IsSoundLayout, IsValid, Partition, partitions}
 use Rattle.row_locality.specs.Spans.{is_in}
 use Rattle.sql_eval.specs.Agreement.{range_value}
 use Rattle.sql_eval.specs.Search.{Lookup, ask_of}

@@ -1,6 +1,6 @@
 -- Over all that a valid database holds, a search by an index finds the rows that match.
-use Rattle.std.proofs.Common.{◌≡◌, ℕ, Bool, true, false, List, [], ◌∷◌, length, refl, sym, ap, ◌∙◌, subst, inl, inr, arith}
-use Rattle.std.specs.Prelude.{◌≢◌, ◌==◌, ◌&&◌, if◌then◌else◌, filter, map, slice_get, flat_map, Option, Some, None, option_map, option_and_then, option_to_list, is_some}
+use Rattle.std.proofs.Common.{◌≡◌, ℕ, Bool, true, false, List, refl, sym, ap, ◌∙◌, subst, inl, inr}
+use Rattle.std.specs.Prelude.{◌==◌, if◌then◌else◌, filter, map, slice_get, Option, Some, None, option_map, option_and_then, option_to_list, is_some}
 use Rattle.std.specs.List.{AllZip}
 use Rattle.std.proofs.lemmas.Bool.{eqb-true}
 use Rattle.mr_base.specs.declared.rows.Datum.{Datum}
@@ -10,9 +10,9 @@ use Rattle.descriptors.specs.declared.table.Table.{Table}
 use Rattle.row_locality.specs.Keys.{index_key, index_types, primary_key}
 use Rattle.row_locality.specs.Pairs.{KeyValue}
 use Rattle.row_locality.specs.Plain.{Layout, PlainDatabase, IsSoundLayout, IsValid, Partition, partitions}
-use Rattle.row_locality.specs.Reading.{is_key_of, key_values, primary_of}
+use Rattle.row_locality.specs.Reading.{is_key_of, primary_of}
 use Rattle.row_locality.specs.Rows.{Fits, HasType, indexes, key_of, values_at}
-use Rattle.row_locality.specs.Spans.{is_in, point_of}
+use Rattle.row_locality.specs.Spans.{point_of}
 use Rattle.row_locality.specs.Values.{value_of}
 use Rattle.row_locality.proofs.KeyPartLemmas.{key_values_again}
 use Rattle.row_locality.proofs.PointLemmas.{point_holds}

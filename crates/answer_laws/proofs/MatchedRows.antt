@@ -14,7 +14,6 @@ use Rattle.descriptors.specs.declared.table.Table.{Table}
 use Rattle.row_locality.specs.Keys.{index_key, index_types, primary_key}
 use Rattle.row_locality.specs.Pairs.{KeyValue, bytes_cmp, put_all, row_pair}
 use Rattle.row_locality.specs.Plain.{Layout, PlainDatabase, IsSoundLayout, IsValid, IsRowOf, Partition, partitions}
-use Rattle.row_locality.specs.Reading.{row_of}
 use Rattle.row_locality.specs.Rows.{Fits, indexes, key_of, region_of, values_at}
 use Rattle.row_locality.specs.Spans.{is_in}
 use Rattle.mr_base.specs.declared.spans.Span.{Span}

@@ -1,6 +1,6 @@
 -- The look-ups of the rows that INSERT makes and of those that UPDATE changes.
-use Rattle.std.proofs.Common.{◌≡◌, ℕ, Bool, true, false, List, [], ◌∷◌, ◌++◌, refl, sym, ap, ◌∙◌, subst, inl, inr, arith}
-use Rattle.std.specs.Prelude.{◌⊎◌, ◌≢◌, not, filter, flat_map, map, slice_get, Option, Some, None}
+use Rattle.std.proofs.Common.{◌≡◌, ℕ, Bool, true, false, List, [], ◌∷◌, refl, sym, ap, ◌∙◌, subst, inl, inr, arith}
+use Rattle.std.specs.Prelude.{◌⊎◌, not, filter, map, slice_get, Option, Some, None}
 use Rattle.std.specs.Cmp.Lexicographic.{nat_list_cmp_total}
 use Rattle.std.specs.FinMap.Entries.{find}
 use Rattle.std.specs.List.{enumerate_from}
@@ -9,7 +9,7 @@ use Rattle.region_sql.specs.declared.row_statements.Term.{Term}
 use Rattle.descriptors.specs.declared.table.Table.{Table}
 use Rattle.row_locality.specs.Keys.{primary_key}
 use Rattle.row_locality.specs.Pairs.{bytes_cmp}
-use Rattle.row_locality.specs.Plain.{Layout, PlainDatabase, IsSoundLayout, IsValid, IsRowOf, AreApart, Partition, partitions}
+use Rattle.row_locality.specs.Plain.{Layout, PlainDatabase, IsSoundLayout, IsValid, AreApart, Partition, partitions}
 use Rattle.row_locality.specs.Rows.{Fits, are_equal_in, indexes, region_of, values_at}
 use Rattle.sql_eval.specs.Evaluation.{KeyedRow}
 use Rattle.sql_eval.specs.Lookups.{key_lookup, own_first, index_lookups, key_lookups, new_row_lookups, changed_indexes, changed_row_lookups}
@@ -23,7 +23,7 @@ use Rattle.answer_laws.proofs.KeyedEntries.{found_entry, entry_found}
 use Rattle.answer_laws.proofs.MatchedRows.{keyed, one_keyed, matching_rising}
 use Rattle.answer_laws.proofs.Members.{Has, has_filter, filter_has}
 use Rattle.answer_laws.proofs.MoreMembers.{false_true, append_has, has_first, has_second, has_map, map_has, has_flat, flat_has, numbered_has, has_numbered}
-use Rattle.answer_laws.proofs.Pairwise.{EachTwo, two_filter}
+use Rattle.answer_laws.proofs.Pairwise.{two_filter}
 use Rattle.answer_laws.proofs.RangesOfTables.{home}
 use Rattle.answer_laws.proofs.RowOrder.{Row}
 use Rattle.answer_laws.proofs.SharedValues.{equal_values}

@@ -1,25 +1,24 @@
 -- The ranges of two tables differ, and so do those of a table's partitions. Each row lives in one.
 use Rattle.std.proofs.Common.{◌≡◌, ℕ, zero, suc, ◌+◌, ◌<◌, ◌≤◌, Bool, true, false, List, [], ◌∷◌, ◌++◌, length, refl, sym, ap, ◌∙◌, subst, inl, inr, arith}
 use Rattle.std.specs.Prelude.{if◌then◌else◌, map, position, slice_get, unwrap_or, Contains, IfSome, Option, Some, None, option_and_then, bytes_eq}
-use Rattle.std.specs.List.{AllByRecursion, AllZip, enumerate_from}
+use Rattle.std.specs.List.{AllZip, enumerate_from}
 use Rattle.std.proofs.lemmas.Bool.{cases_eq, cases_order}
 use Rattle.std.proofs.lemmas.List.Elements.{recursion_from_All}
 use Rattle.std.proofs.lemmas.Slice.Eq.{bytes_eq-Decides}
 use Rattle.mr_base.specs.declared.ids.RangeId.{RangeId}
-use Rattle.mr_base.specs.declared.rows.Datum.{Datum}
 use Rattle.mr_base.specs.declared.rows.Datum.TheVariants as datums
 use Rattle.region_sql.specs.declared.region_statements.ColumnType.{ColumnType}
 use Rattle.descriptors.specs.declared.database.Database.{Database}
 use Rattle.descriptors.specs.declared.table.Table.{Table}
 use Rattle.descriptors.specs.Contents.{Contents}
 use Rattle.descriptors.specs.Sound.{IsSoundAmong, IsSoundCatalog, IsSoundTable}
-use Rattle.row_locality.specs.Plain.{Layout, AreRangesOf, IsSoundLayout, IsRowOf, Partition, partitions, partition_regions, partition_of, first_range, range_at, range_of, regions_of}
+use Rattle.row_locality.specs.Plain.{Layout, AreRangesOf, IsRowOf, Partition, partitions, partition_regions, partition_of, first_range, range_at, range_of, regions_of}
 use Rattle.row_locality.specs.Rows.{HasType, is_by_row, region_column, region_of, text_of}
 use Rattle.sql_eval.specs.Execution.{Named}
 use Rattle.answer_laws.proofs.KeepsValid.{IsNamed}
 use Rattle.answer_laws.proofs.Members.{Has, has_itself, each_has}
 use Rattle.answer_laws.proofs.MoreMembers.{same_some, got_has, has_map, map_has, numbered_has, has_numbered}
-use Rattle.answer_laws.proofs.Positions.{FirstAt, first_at}
+use Rattle.answer_laws.proofs.Positions.{first_at}
 use Rattle.answer_laws.proofs.RowOrder.{Row}
 use Rattle.answer_laws.proofs.WrittenRanges.{place_below, some_regions}
 

@@ -1,13 +1,13 @@
 -- A table of the rows that stay and of those that come, in the order of their keys.
-use Rattle.std.proofs.Common.{◌≡◌, ℕ, Bool, true, false, List, [], ◌∷◌, ◌++◌, refl, sym, ap, ◌∙◌, subst, inl, inr}
-use Rattle.std.specs.Prelude.{◌⊎◌, not, if◌then◌else◌, filter, slice_get, Some}
+use Rattle.std.proofs.Common.{◌≡◌, Bool, true, false, List, [], ◌∷◌, ◌++◌, refl, ap, subst, inl, inr}
+use Rattle.std.specs.Prelude.{◌⊎◌, not, if◌then◌else◌, filter}
 use Rattle.std.specs.List.{AllByRecursion}
 use Rattle.std.specs.Ordering.{is_lt}
 use Rattle.descriptors.specs.declared.table.Table.{Table}
 use Rattle.region_sql.specs.declared.row_statements.Term.{Term}
 use Rattle.row_locality.specs.Plain.{Layout, PlainDatabase, IsValid, IsRowOf, AreApart, AreRowsOf}
 use Rattle.row_locality.specs.Rows.{row_cmp}
-use Rattle.sql_eval.specs.Execution.{Named, rows_in_order, with_row, with_rows}
+use Rattle.sql_eval.specs.Execution.{Named, rows_in_order, with_row}
 use Rattle.sql_eval.specs.RowWords.{has_twins, matches}
 use Rattle.answer_laws.proofs.Effects.{AreReplaced}
 use Rattle.answer_laws.proofs.HeldPairs.{row_is, rows_apart}

@@ -1,6 +1,6 @@
 -- The writes of rows: of each pair one, at a place of its own.
-use Rattle.std.proofs.Common.{◌≡◌, ℕ, ◌+◌, ◌<◌, ◌≤◌, Bool, List, [], ◌∷◌, ◌++◌, refl, sym, ap, ◌∙◌, subst, inl, inr, arith}
-use Rattle.std.specs.Prelude.{◌≢◌, flat_map, map, slice_get, Some}
+use Rattle.std.proofs.Common.{◌≡◌, ℕ, ◌+◌, List, [], ◌∷◌, refl, sym, ap, ◌∙◌, subst, inl, inr, arith}
+use Rattle.std.specs.Prelude.{◌≢◌, flat_map, map}
 use Rattle.std.specs.List.{AllByRecursion, enumerate_from}
 use Rattle.mr_base.specs.declared.ids.RangeId.{RangeId}
 use Rattle.descriptors.specs.Sound.{IsSoundTable}
@@ -10,12 +10,11 @@ use Rattle.row_locality.specs.Pairs.{KeyValue, row_pair, pairs_of}
 use Rattle.row_locality.specs.Plain.{Layout, AreApart, range_of}
 use Rattle.row_locality.specs.Rows.{Fits, unique_indexes, values_at}
 use Rattle.sql_eval.specs.OwnWrites.{OwnWrite}
-use Rattle.answer_laws.proofs.Lists.{each_append}
 use Rattle.answer_laws.proofs.Members.{Has, each_has}
 use Rattle.answer_laws.proofs.MoreMembers.{flat_has, has_flat, map_has, has_map, numbered_has}
 use Rattle.answer_laws.proofs.Pairwise.{EachTwo, two_append}
 use Rattle.answer_laws.proofs.RowOrder.{Row}
-use Rattle.answer_laws.proofs.TablePairs.{IsPairIn, Meet, pair_number, rows_meet, apart_not}
+use Rattle.answer_laws.proofs.TablePairs.{IsPairIn, pair_number, rows_meet, apart_not}
 use Rattle.answer_laws.proofs.TrackedWrites.{AtOthers, place_of}
 
 -- ---- each two of lists that are made of others

@@ -1,6 +1,6 @@
 -- Twins: rows that share a value of an index, in one list and across two.
-use Rattle.std.proofs.Common.{◌≡◌, ℕ, zero, suc, Bool, true, false, List, [], ◌∷◌, ◌++◌, refl, sym, ap, ◌∙◌, subst, inl, inr}
-use Rattle.std.specs.Prelude.{◌⊎◌, ◌||◌, slice_get, Some}
+use Rattle.std.proofs.Common.{◌≡◌, ℕ, suc, true, List, [], ◌∷◌, ◌++◌, refl, sym, ap, subst, inl, inr}
+use Rattle.std.specs.Prelude.{◌⊎◌, slice_get, Some}
 use Rattle.std.specs.Cmp.{Equal-is, tied_itself}
 use Rattle.std.specs.List.{list_any}
 use Rattle.std.specs.declared.cmp.Ordering.TheVariants.{Equal}
@@ -10,9 +10,8 @@ use Rattle.row_locality.specs.Plain.{AreApart}
 use Rattle.row_locality.specs.Rows.{are_equal_in, indexes, key_cmp, values_at}
 use Rattle.row_locality.proofs.DatumOrder.{key_cmp_exact, key_cmp_total}
 use Rattle.sql_eval.specs.RowWords.{are_twins, has_twins}
-use Rattle.answer_laws.proofs.KeyedEntries.{ties_itself}
 use Rattle.answer_laws.proofs.Members.{Has, each_has}
-use Rattle.answer_laws.proofs.MoreMembers.{false_true, got_has, has_first, has_second, append_has, has_any, any_has, either_true, or_first, or_second}
+use Rattle.answer_laws.proofs.MoreMembers.{false_true, got_has, has_second, append_has, has_any, any_has, either_true, or_first, or_second}
 use Rattle.answer_laws.proofs.Pairwise.{EachTwo}
 use Rattle.answer_laws.proofs.RowOrder.{Row}
 use Rattle.answer_laws.proofs.TablePairs.{apart_in}

@@ -1,16 +1,15 @@
 -- The pairs of a table's rows, by the numbers of their indexes.
-use Rattle.std.proofs.Common.{◌≡◌, ℕ, zero, suc, ◌+◌, Bool, true, false, cond, List, [], ◌∷◌, refl, sym, ap, ◌∙◌, subst, inl, inr, arith}
-use Rattle.std.specs.Prelude.{◌≢◌, ◌⊎◌, ◌==◌, slice_get, map, Some}
-use Rattle.std.specs.List.{AllByRecursion, AllZip, enumerate_from}
+use Rattle.std.proofs.Common.{◌≡◌, ℕ, zero, suc, ◌+◌, Bool, false, cond, List, [], ◌∷◌, refl, sym, ap, ◌∙◌, subst, inl, inr, arith}
+use Rattle.std.specs.Prelude.{◌≢◌, ◌⊎◌, ◌==◌, slice_get, Some}
+use Rattle.std.specs.List.{enumerate_from}
 use Rattle.std.proofs.lemmas.Bool.{ne_eqb}
 use Rattle.std.proofs.lemmas.List.Elements.{recursion_from_All}
-use Rattle.mr_base.specs.declared.rows.Datum.{Datum}
 use Rattle.descriptors.specs.Sound.{IsSoundTable}
 use Rattle.descriptors.specs.declared.table.Table.{Table}
 use Rattle.row_locality.specs.Keys.{index_key, index_types, primary_key}
-use Rattle.row_locality.specs.Pairs.{KeyValue, row_pair, index_pairs, pairs_of}
+use Rattle.row_locality.specs.Pairs.{KeyValue, index_pairs, pairs_of}
 use Rattle.row_locality.specs.Plain.{AreApart}
-use Rattle.row_locality.specs.Rows.{Fits, HasType, indexes, unique_indexes, values_at}
+use Rattle.row_locality.specs.Rows.{Fits, indexes, unique_indexes, values_at}
 use Rattle.row_locality.specs.Values.{value_of}
 use Rattle.row_locality.proofs.KeyLemmas.{equal_keys}
 use Rattle.row_locality.proofs.TypeLemmas.{index_typed}

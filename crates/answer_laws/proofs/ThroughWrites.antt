@@ -4,23 +4,21 @@ use Rattle.std.specs.Prelude.{T, ◌==◌, if◌then◌else◌, filter_map, Opti
 use Rattle.std.specs.Cmp.Lexicographic.{nat_list_cmp_total}
 use Rattle.std.specs.FinMap.Entries.{find, where_key, is_sorted, find-where_key, is_sorted-where_key, same_entries}
 use Rattle.std.specs.Option.{option_or}
-use Rattle.std.specs.declared.cmp.Ordering.TheVariants.{Equal}
 use Rattle.std.proofs.lemmas.Bool.{and_parts, eqb-true}
 use Rattle.std.proofs.lemmas.Map.Lookups.{exact_bytes}
-use Rattle.mr_base.specs.declared.ids.RangeId.{RangeId}
 use Rattle.mr_base.specs.declared.spans.Ask.{Ask}
-use Rattle.row_locality.specs.Pairs.{KeyValue, bytes_cmp, put_all}
+use Rattle.row_locality.specs.Pairs.{KeyValue, bytes_cmp}
 use Rattle.row_locality.specs.Plain.{Layout, PlainDatabase, range_pairs}
 use Rattle.row_locality.specs.Spans.{is_in}
 use Rattle.sql_eval.specs.Agreement.{range_value}
 use Rattle.sql_eval.specs.OwnWrites.{OwnWrites, FirstAndLast, Place, place_cmp, is_asked, values_written, patched_pairs, reads_through}
-use Rattle.sql_eval.specs.Reads.{Reads, stored_reads}
+use Rattle.sql_eval.specs.Reads.{stored_reads}
 use Rattle.answer_laws.proofs.KeyedEntries.{found_entry, entry_found}
 use Rattle.answer_laws.proofs.Members.{Has}
 use Rattle.answer_laws.proofs.MoreMembers.{same_some, same_option, has_filter_map, filter_map_has}
 use Rattle.answer_laws.proofs.PutAll.{sorted_all, last_of, find_all, last_has, has_last, range_sorted}
 use Rattle.answer_laws.proofs.TrackedWrites.{Tracks, place_total, place_exact, same_number}
-use Rattle.answer_laws.proofs.WrittenValues.{written_value, written_at}
+use Rattle.answer_laws.proofs.WrittenValues.{written_at}
 
 -- what a test by key leaves of a list holds, at a key, what the list holds there, or nothing
 pub value_where : (test : List ℕ → Bool) (key : List ℕ) (es : List KeyValue) → find bytes_cmp key (where_key bytes_cmp test es) ≡ cond (test key) (find bytes_cmp key es) None

@@ -1,5 +1,5 @@
 -- Over all that a valid database holds, a list comes to what executing it gives.
-use Rattle.std.proofs.Common.{◌≡◌, ℕ, ◌*◌, List, [], ◌∷◌, length, refl, sym, ap, ◌∙◌, subst}
+use Rattle.std.proofs.Common.{◌≡◌, ℕ, ◌*◌, List, [], ◌∷◌, length, refl, sym, ap, subst}
 use Rattle.std.specs.Prelude.{⊤, Option, Some, None, Result, Ok, Err}
 use Rattle.std.specs.List.{AllByRecursion}
 use Rattle.std.specs.Option.{option_map_or}
@@ -9,9 +9,7 @@ use Rattle.mr_base.specs.declared.states.SqlState.{SqlState}
 use Rattle.mr_base.specs.declared.states.SqlState.TheVariants.{S42P01}
 use Rattle.region_sql.specs.TextLiterals.{TextsAreUtf8}
 use Rattle.region_sql.specs.declared.row_statements.RowStatement.{RowStatement}
-use Rattle.descriptors.specs.Contents.{Contents}
-use Rattle.descriptors.specs.Sound.{IsSoundCatalog}
-use Rattle.row_locality.specs.Plain.{Layout, PlainDatabase, IsSoundLayout, IsValid, AreRowsOf}
+use Rattle.row_locality.specs.Plain.{Layout, PlainDatabase, IsSoundLayout, IsValid}
 use Rattle.sql_eval.specs.Agreement.{range_value}
 use Rattle.sql_eval.specs.Evaluation.{Outcome, ListOutcome, Setting, unless as unless_faulty, checked_outcome, table_outcome, statement_outcome, list_outcome, evaluation}
 use Rattle.sql_eval.specs.Execution.{Named, named_table, table_name, unless, on_rows, on_table, with_rows, exec_statement, exec_list, exec}
@@ -27,7 +25,7 @@ use Rattle.answer_laws.proofs.KeepsValid.{IsNamed, is_named}
 use Rattle.answer_laws.proofs.RowOrder.{Row}
 use Rattle.answer_laws.proofs.ThroughWrites.{through_writes}
 use Rattle.answer_laws.proofs.TrackedWrites.{Held, Tracks, no_writes}
-use Rattle.answer_laws.proofs.WholeStatements.{IsDone, Agrees, table_agrees}
+use Rattle.answer_laws.proofs.WholeStatements.{Agrees, table_agrees}
 use Rattle.answer_laws.proofs.WrittenChanges.{are_changes}
 
 -- ---- statements

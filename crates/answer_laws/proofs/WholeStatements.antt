@@ -1,6 +1,6 @@
 -- Over all that a valid database holds, a statement comes to what executing it gives.
 use Rattle.std.proofs.Common.{◌≡◌, ℕ, Bool, true, false, List, [], ◌∷◌, ◌++◌, length, refl, sym, ap, ◌∙◌, subst, inl, inr}
-use Rattle.std.specs.Prelude.{⊤, not, if◌then◌else◌, filter, map, slice_get, Option, Some, None, Result, Ok, Err}
+use Rattle.std.specs.Prelude.{⊤, not, if◌then◌else◌, filter, map, Result, Ok, Err}
 use Rattle.std.specs.List.{AllByRecursion}
 use Rattle.std.proofs.lemmas.List.{append-nil, length-map}
 use Rattle.mr_base.specs.declared.results.StatementResult.{StatementResult}
@@ -17,7 +17,7 @@ use Rattle.descriptors.specs.declared.table.Table.{Table}
 use Rattle.row_locality.specs.Plain.{Layout, PlainDatabase, IsSoundLayout, IsValid, IsRowOf}
 use Rattle.row_locality.specs.Rows.{Fits}
 use Rattle.sql_eval.specs.Agreement.{range_value}
-use Rattle.sql_eval.specs.Evaluation.{KeyedRow, Outcome, rows_of, removals, additions, if_free, found_rows, table_outcome, partitions_of}
+use Rattle.sql_eval.specs.Evaluation.{KeyedRow, Outcome, rows_of, removals, additions, if_free, table_outcome, partitions_of}
 use Rattle.sql_eval.specs.Execution.{Named, count_answer, rows_answer, on_rows, rows_in_order, table_rows, with_rows}
 use Rattle.sql_eval.specs.Lookups.{new_row_lookups, changed_row_lookups}
 use Rattle.sql_eval.specs.OwnWrites.{OwnWrite, OwnWrites, removal, addition, with_writes}
