@@ -1,6 +1,6 @@
 -- What was fed is a part of what a database that agrees holds.
 use Rattle.std.proofs.Common.{◌≡◌, ℕ, ◌<◌, Bool, true, false, cond, List, [], ◌∷◌, refl, sym, ap, ◌∙◌, subst, inl, inr, arith}
-use Rattle.std.specs.Prelude.{◌⊎◌, ◌==◌, find, Option, Some, None, option_map}
+use Rattle.std.specs.Prelude.{◌⊎◌, ◌==◌, find, Option, Some}
 use Rattle.std.specs.FinMap.Entries.{where_key}
 use Rattle.std.proofs.lemmas.Bool.{and_parts, cases_order, eqb-true}
 use Rattle.std.proofs.lemmas.List.Elements.{recursion_from_All}
@@ -20,6 +20,7 @@ use Rattle.sql_eval.specs.Reads.{Reads, IsPartOf, covers, rows_within, served_re
 use Rattle.sql_eval.specs.Search.{Evaluation, gives, faults, needs}
 use Rattle.answer_laws.proofs.Evaluations.{IsKept}
 use Rattle.answer_laws.proofs.Members.{each_has, find_has}
+use Rattle.answer_laws.proofs.MoreMembers.{mapped_some}
 use Rattle.answer_laws.proofs.Statements.{evaluation_kept}
 
 -- ---- spans inside spans
@@ -117,10 +118,6 @@ find_passes p (y ∷ ys) x e = found_passes (p y) y x p (find p ys) refl (find_p
 same_value : {A : Type 0} {a b : A} → Some a ≡ Some b → a ≡ b
 same_value g = cc
 
-mapped_back : {X Y : Type 0} (f : X → Y) (o : Option X) (y : Y) → option_map f o ≡ Some y → (x : X) × (o ≡ Some x) × (f x ≡ y)
-mapped_back f None y e = absurd (cc)
-mapped_back f (Some x) y e = (x, refl, same_value e)
-
 same_range : (a b : RangeId) → (a.0 == b.0) ≡ true → a ≡ b
 same_range a b e = let number : ℕ → RangeId = λ n. record { 0 = n } in ap number (eqb-true a.0 b.0 e)
 
@@ -136,7 +133,7 @@ fed_rows l d ask x c h =
 pub served_is_stored : (l : Layout) (d : PlainDatabase) (fed : List Fed) → Agrees l d fed → IsPartOf (served_reads fed) (stored_reads l d)
 unfolding served_reads stored_reads
 served_is_stored l d fed h ask pairs e =
-    let r : (x : Fed) × (find (covers ask) fed ≡ Some x) × (rows_within ask x ≡ pairs) = mapped_back (rows_within ask) (find (covers ask) fed) pairs e in
+    let r : (x : Fed) × (find (covers ask) fed ≡ Some x) × (rows_within ask x ≡ pairs) = mapped_some (rows_within ask) (find (covers ask) fed) pairs e in
     let agrees : AgreesOn l d r.0 = each_has (AgreesOn l d) r.0 fed (recursion_from_All (AgreesOn l d) fed h) (find_has (covers ask) fed r.0 r.1) in
     ap (λ (ps : List KeyValue). Some ps) (fed_rows l d ask r.0 (find_passes (covers ask) fed r.0 r.1) agrees ∙ r.2)
 

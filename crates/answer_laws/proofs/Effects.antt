@@ -1,6 +1,6 @@
 -- What a statement writes leads from what a database holds to what the next one holds.
 use Rattle.std.proofs.Common.{◌≡◌, ℕ, Bool, List, ◌++◌, refl, sym, ap, ◌∙◌, subst, inl, inr}
-use Rattle.std.specs.Prelude.{◌≢◌, ◌⊎◌, if◌then◌else◌, slice_get, Option, Some, None}
+use Rattle.std.specs.Prelude.{◌≢◌, ◌⊎◌, if◌then◌else◌, slice_get, Some, None}
 use Rattle.std.proofs.lemmas.Bool.{cases_eq, eq-eqb, ne_eqb}
 use Rattle.mr_base.specs.declared.ids.RangeId.{RangeId}
 use Rattle.descriptors.specs.Sound.{IsSoundTable}
@@ -13,7 +13,7 @@ use Rattle.sql_eval.specs.Execution.{with_rows}
 use Rattle.sql_eval.specs.OwnWrites.{OwnWrite, OwnWrites, Place, removal, addition, with_writes}
 use Rattle.answer_laws.proofs.HeldPairs.{InTable, Lives, row_is, moved, one_in_table, value_lives, live_value, table_value, held_in_table}
 use Rattle.answer_laws.proofs.Members.{Has}
-use Rattle.answer_laws.proofs.MoreMembers.{same_some, same_option}
+use Rattle.answer_laws.proofs.MoreMembers.{same_some, same_option, none_if}
 use Rattle.answer_laws.proofs.Pairwise.{EachTwo}
 use Rattle.answer_laws.proofs.RangesOfTables.{IsRangeIn, row_range, table_sound}
 use Rattle.answer_laws.proofs.RowOrder.{Row}
@@ -44,10 +44,6 @@ here_rows d place rows = ap (λ (b : Bool). if b then rows else d place) (eq-eqb
 
 pub other_rows : (d : PlainDatabase) (place other : ℕ) (rows : List Row) → other ≢ place → with_rows d place rows other ≡ d other
 other_rows d place other rows h = ap (λ (b : Bool). if b then rows else d other) (ne_eqb other place h)
-
-none_if : {A : Type 0} (o : Option A) → ((v : A) → o ≡ Some v → ⊥) → o ≡ None
-none_if None h = refl
-none_if (Some v) h = absurd (h v refl)
 
 -- a pair that lives in a range is of this table, or of another
 here_or_other : (l : Layout) (d : PlainDatabase) (place : ℕ) (t : Table) (range : RangeId) (p : KeyValue) → slice_get l.catalog.tables place ≡ Some t → (v : Lives l d range p)

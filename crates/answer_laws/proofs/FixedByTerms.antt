@@ -25,7 +25,7 @@ use Rattle.row_locality.proofs.DatumOrder.{datum_cmp_exact}
 use Rattle.sql_eval.specs.Lookups.{is_equality, fixed_value, fixed_region, fixed_value_at, fixed_values, first_fixed, index_for}
 use Rattle.sql_eval.specs.RowWords.{place_of, value_in, datum_of, compares, holds, matches}
 use Rattle.answer_laws.proofs.Members.{Has, each_has, find_has}
-use Rattle.answer_laws.proofs.MoreMembers.{same_some, false_true, got_has, numbered_has}
+use Rattle.answer_laws.proofs.MoreMembers.{same_some, false_true, got_has, numbered_has, mapped_some, then_some}
 use Rattle.answer_laws.proofs.Pairwise.{EachTwo, each_two}
 use Rattle.answer_laws.proofs.Positions.{position_first, position_next}
 use Rattle.answer_laws.proofs.RowOrder.{Row}
@@ -44,14 +44,6 @@ all_pass : {X : Type 0} (test : X → Bool) (xs : List X) (x : X) → list_all t
 all_pass test [] x e h = absurd h
 all_pass test (y ∷ ys) x e (inl q) = ap test (sym q) ∙ (and_parts (test y) (list_all test ys) e).0
 all_pass test (y ∷ ys) x e (inr h) = all_pass test ys x (and_parts (test y) (list_all test ys) e).1 h
-
-mapped_some : {X Y : Type 0} (f : X → Y) (o : Option X) (y : Y) → option_map f o ≡ Some y → (x : X) × (o ≡ Some x) × (f x ≡ y)
-mapped_some f None y e = absurd (cc)
-mapped_some f (Some x) y e = (x, refl, same_some e)
-
-then_some : {X Y : Type 0} (f : X → Option Y) (o : Option X) (y : Y) → option_and_then f o ≡ Some y → (x : X) × (o ≡ Some x) × (f x ≡ Some y)
-then_some f None y e = absurd (cc)
-then_some f (Some x) y e = (x, refl, e)
 
 -- ---- a term with =
 

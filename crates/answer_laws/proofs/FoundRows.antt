@@ -29,6 +29,7 @@ use Rattle.answer_laws.proofs.RangesOfTables.{home, table_sound}
 use Rattle.answer_laws.proofs.RowOrder.{Row}
 use Rattle.answer_laws.proofs.StoredSearches.{answered, search_stored, answer_is, all_answered}
 use Rattle.answer_laws.proofs.NearFirst.{region_passes}
+use Rattle.answer_laws.proofs.TablePairs.{same_heads}
 
 -- ---- partitions of a search
 
@@ -60,9 +61,6 @@ there_by None ps p f h = h
 there_by (Some region) ps p f h = has_filter (is_in_region region) ps p h (region_passes region p.region (f region refl))
 
 -- ---- spans of primary keys
-
-same_heads : (m n : ℕ) (s r : List ℕ) → m ∷ s ≡ n ∷ r → m ≡ n
-same_heads m n s r e = cc
 
 all_rows_primary : IsPrimarySpan all_rows
 all_rows_primary number values e = eqb-true number 0 (sym (in_all_rows number _) ∙ e)

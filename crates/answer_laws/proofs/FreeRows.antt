@@ -1,6 +1,6 @@
 -- Over all that a valid database holds, the look-ups of new rows meet another row where they share a value with
 -- one that stays.
-use Rattle.std.proofs.Common.{◌≡◌, ℕ, Bool, true, false, List, ◌∷◌, ◌++◌, refl, sym, ap, ◌∙◌, subst, inl, inr}
+use Rattle.std.proofs.Common.{◌≡◌, ℕ, Bool, true, false, List, ◌++◌, refl, sym, ap, ◌∙◌, subst, inl, inr}
 use Rattle.std.specs.Prelude.{◌⊎◌, ◌==◌, ◌||◌, if◌then◌else◌, slice_get, Option, Some, None, is_none}
 use Rattle.std.specs.FinMap.Entries.{find}
 use Rattle.std.specs.List.{list_any}
@@ -23,23 +23,15 @@ use Rattle.sql_eval.specs.Search.{Evaluation, gives, faults, ◌>>=◌, Lookup, 
 use Rattle.answer_laws.proofs.HeldPairs.{row_is}
 use Rattle.answer_laws.proofs.HeldRows.{HeldRow, held_row, row_held}
 use Rattle.answer_laws.proofs.Members.{Has}
-use Rattle.answer_laws.proofs.MoreMembers.{same_some, same_truth, has_any, any_has, either_true, or_first, or_second}
+use Rattle.answer_laws.proofs.MoreMembers.{same_truth, has_any, any_has, either_true, or_first, or_second}
 use Rattle.answer_laws.proofs.Pairwise.{EachTwo}
 use Rattle.answer_laws.proofs.RangesOfTables.{home, table_sound}
 use Rattle.answer_laws.proofs.RowOrder.{Row}
 use Rattle.answer_laws.proofs.SharedValues.{Shares, Cross, append_twins, later_twins, cross_twins, no_twins}
 use Rattle.answer_laws.proofs.StoredSearches.{held_at, answer_at, search_stored, any_answered}
-use Rattle.answer_laws.proofs.TablePairs.{IsPairIn, Meet, pair_in, rows_meet}
+use Rattle.answer_laws.proofs.TablePairs.{IsPairIn, Meet, pair_in, rows_meet, same_heads, primary_index}
 
 -- ---- the primary key that a pair names
-
-same_heads : (m n : ℕ) (s r : List ℕ) → m ∷ s ≡ n ∷ r → m ≡ n
-same_heads m n s r e = cc
-
-primary_index : (t : Table) (row : Row) (n : ℕ) (places : List ℕ) → n ≡ 0 → slice_get (indexes t) n ≡ Some places → index_key n (values_at places row) ≡ primary_key t row
-primary_index t row n places z e =
-    let same : t.key ≡ places = same_some (subst (λ (m : ℕ). slice_get (indexes t) m ≡ Some places) z e) in
-    ap (λ (m : ℕ). index_key m (values_at places row)) z ∙ ap (λ (qs : List ℕ). index_key 0 (values_at qs row)) (sym same)
 
 named_if : (t : Table) (row : Row) (n : ℕ) (places : List ℕ) (b : Bool) → (n == 0) ≡ b → slice_get (indexes t) n ≡ Some places
     → (if b then index_key n (values_at places row) else (if b then value_of t row else primary_key t row)) ≡ primary_key t row

@@ -11,7 +11,7 @@ use Rattle.row_locality.specs.Keys.{index_key, index_types, primary_key}
 use Rattle.row_locality.specs.Pairs.{KeyValue}
 use Rattle.row_locality.specs.Plain.{Layout, PlainDatabase, IsSoundLayout, IsValid, Partition, partitions}
 use Rattle.row_locality.specs.Reading.{is_key_of, primary_of}
-use Rattle.row_locality.specs.Rows.{Fits, HasType, indexes, key_of, values_at}
+use Rattle.row_locality.specs.Rows.{Fits, HasType, key_of, values_at}
 use Rattle.row_locality.specs.Spans.{point_of}
 use Rattle.row_locality.specs.Values.{value_of}
 use Rattle.row_locality.proofs.KeyPartLemmas.{key_values_again}
@@ -28,11 +28,11 @@ use Rattle.answer_laws.proofs.HeldPairs.{rows_apart}
 use Rattle.answer_laws.proofs.HeldRows.{HeldRow, held_row, row_held}
 use Rattle.answer_laws.proofs.MatchedRows.{keyed, IsPrimarySpan, IsSearched, IsCovered, matched}
 use Rattle.answer_laws.proofs.Members.{Has}
-use Rattle.answer_laws.proofs.MoreMembers.{same_some, has_map, map_has, has_flat, flat_has}
+use Rattle.answer_laws.proofs.MoreMembers.{same_some, has_map, map_has, has_flat, flat_has, mapped_some}
 use Rattle.answer_laws.proofs.RangesOfTables.{home}
 use Rattle.answer_laws.proofs.RowOrder.{Row}
 use Rattle.answer_laws.proofs.StoredSearches.{held_at, answer_at, answered, search_stored, answer_is, all_answered, EndsAt, ends_somewhere}
-use Rattle.answer_laws.proofs.TablePairs.{IsPairIn, Meet, pair_in, index_value, rows_meet, one_row}
+use Rattle.answer_laws.proofs.TablePairs.{IsPairIn, Meet, pair_in, index_value, rows_meet, one_row, primary_index}
 
 -- ---- the key of a row is one of its index
 
@@ -48,10 +48,6 @@ has_option : {X : Type 0} (o : Option X) (x : X) → Has x (option_to_list o) �
 has_option None x h = absurd h
 has_option (Some y) x (inl e) = ap (λ z. Some z) e
 has_option (Some y) x (inr h) = absurd h
-
-mapped_back : {X Y : Type 0} (f : X → Y) (o : Option X) (y : Y) → option_map f o ≡ Some y → (x : X) × (o ≡ Some x) × (f x ≡ y)
-mapped_back f None y e = absurd (cc)
-mapped_back f (Some x) y e = (x, refl, same_some e)
 
 module _ (l : Layout) (d : PlainDatabase) (place : ℕ) (t : Table) (sound : IsSoundLayout l) (valid : IsValid l.catalog d) (at : slice_get l.catalog.tables place ≡ Some t)
     (gateway : List ℕ) (terms : List Term) (x : ℕ × List Datum) (by : index_for t terms ≡ Some x) where
@@ -141,11 +137,6 @@ module _ (l : Layout) (d : PlainDatabase) (place : ℕ) (t : Table) (sound : IsS
         primary = subst (λ (y : Lookup). IsPrimarySpan y.span) k.2 (subst (λ (n : ℕ). IsPrimarySpan (point_of (index_key n x.1))) (sym z) (point_primary x.1));
       }
 
-  zero_key : (n : ℕ) (places : List ℕ) (row : Row) → n ≡ 0 → slice_get (indexes t) n ≡ Some places → index_key n (values_at places row) ≡ primary_key t row
-  zero_key n places row z e =
-      let same : t.key ≡ places = same_some (subst (λ (m : ℕ). slice_get (indexes t) m ≡ Some places) z e) in
-      ap (λ (m : ℕ). index_key m (values_at places row)) z ∙ ap (λ (qs : List ℕ). index_key 0 (values_at qs row)) (sym same)
-
   primary_covered : x.0 ≡ 0 → (row : Row) → Has row (d place) → matches t terms row ≡ true → IsCovered l d place t first row
   primary_covered z row h m =
       let e : Ended row = ended row h m in
@@ -153,7 +144,7 @@ module _ (l : Layout) (d : PlainDatabase) (place : ℕ) (t : Table) (sound : IsS
         lookup = key_lookup x.0 x.1 e.partition;
         there = e.answer;
         home_is = e.home_is;
-        inside = (point_holds (index_key x.0 x.1) (primary_key t row)).1 (sym (zero_key x.0 index_is.places row z index_is.index) ∙ key_is row m);
+        inside = (point_holds (index_key x.0 x.1) (primary_key t row)).1 (sym (primary_index t row x.0 index_is.places z index_is.index) ∙ key_is row m);
       }
 
   -- ---- by a UNIQUE column
@@ -188,7 +179,7 @@ module _ (l : Layout) (d : PlainDatabase) (place : ℕ) (t : Table) (sound : IsS
 
   second_lookup : (y : Lookup) → (b : Answer) × Has b first × Has y (option_to_list (led_to t x.0 b)) → Has y.partition (partitions l place t) × IsPrimarySpan y.span
   second_lookup y (b, h, k) =
-      led_searched b y h (mapped_back (λ key. primary_lookup key b.0.partition) (option_and_then (primary_of t x.0) (slice_get b.1 0)) y (has_option (led_to t x.0 b) y k))
+      led_searched b y h (mapped_some (λ key. primary_lookup key b.0.partition) (option_and_then (primary_of t x.0) (slice_get b.1 0)) y (has_option (led_to t x.0 b) y k))
 
   second_searched : (a : Answer) → Has a second → IsSearched l d place t a
   second_searched a h =

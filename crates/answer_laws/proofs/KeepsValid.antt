@@ -105,7 +105,7 @@ is_named c name n e = named_by_place c n (place_named c name) e
 
 -- ---- databases
 
-got_below : {X : Type 0} (xs : List X) (i : ℕ) (x : X) → slice_get xs i ≡ Some x → i < length xs
+pub got_below : {X : Type 0} (xs : List X) (i : ℕ) (x : X) → slice_get xs i ≡ Some x → i < length xs
 got_below [] i x e = absurd (cc)
 got_below (y ∷ ys) zero x e = omega arith
 got_below (y ∷ ys) (suc i) x e = let h : i < length ys = got_below ys i x e in omega arith

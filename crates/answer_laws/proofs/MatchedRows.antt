@@ -27,7 +27,7 @@ use Rattle.answer_laws.proofs.HeldPairs.{row_is, rows_apart}
 use Rattle.answer_laws.proofs.HeldRows.{HeldRow, held_row, row_held}
 use Rattle.answer_laws.proofs.KeyedEntries.{both_hold, is_less, found_entry, entry_found, sorted_filter, by_members}
 use Rattle.answer_laws.proofs.Members.{Has, has_filter, filter_has}
-use Rattle.answer_laws.proofs.MoreMembers.{same_some, flat_has, has_flat, filter_map_has, has_filter_map, map_has, has_map}
+use Rattle.answer_laws.proofs.MoreMembers.{same_some, flat_has, has_flat, filter_map_has, has_filter_map, map_has, has_map, or_none}
 use Rattle.answer_laws.proofs.Pairwise.{EachTwo, each_two, two_filter}
 use Rattle.answer_laws.proofs.PutAll.{last_of, find_all, last_has, has_last, sorted_all}
 use Rattle.answer_laws.proofs.RangesOfTables.{home, table_sound}
@@ -86,10 +86,6 @@ module _ (l : Layout) (t : Table) (sound : IsSoundTable t) where
 fits_each : (t : Table) (rows : List Row) → ((r : Row) → Has r rows → Fits t r) → AllByRecursion (Fits t) rows
 fits_each t [] h = tt
 fits_each t (r ∷ rows) h = (h r (inl refl), fits_each t rows (λ x m. h x (inr m)))
-
-or_none : {A : Type 0} (o : Option A) (v : A) → option_or o None ≡ Some v → o ≡ Some v
-or_none None v e = e
-or_none (Some x) v e = e
 
 -- ---- what is found
 
@@ -164,7 +160,7 @@ module _ (l : Layout) (d : PlainDatabase) (place : ℕ) (t : Table) (sound : IsS
   put_has : (es : List KeyedRow) (e : KeyedRow) → Has e (put_all es []) → Has e es
   put_has es e h =
       let found : find bytes_cmp e.0 (put_all es []) ≡ Some e.1 = entry_found bytes_cmp nat_list_cmp_total exact_bytes e.0 e.1 (put_all es []) (sorted_all es [] tt) h in
-      last_has e.0 es e.1 (or_none (last_of e.0 es) e.1 (sym (find_all e.0 es []) ∙ found))
+      last_has e.0 es e.1 (sym (or_none (last_of e.0 es)) ∙ sym (find_all e.0 es []) ∙ found)
 
   has_put : (answers : List Answer) (row : Row) → ((a : Answer) → Has a answers → IsSearched l d place t a) → Has row (d place) → Has (keyed t row) (flat_map (rows_in t) answers)
       → Has (keyed t row) (put_all (flat_map (rows_in t) answers) [])

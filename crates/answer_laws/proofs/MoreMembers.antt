@@ -1,7 +1,8 @@
 -- Members of lists that are made of others, and tests of them.
 use Rattle.std.proofs.Common.{◌≡◌, ℕ, zero, suc, ◌+◌, Bool, true, false, List, [], ◌∷◌, ◌++◌, refl, sym, ap, ◌∙◌, subst, inl, inr, arith}
-use Rattle.std.specs.Prelude.{◌⊎◌, ◌||◌, filter_map, flat_map, map, slice_get, Option, Some, None}
+use Rattle.std.specs.Prelude.{not, option_map, option_and_then, ◌⊎◌, ◌||◌, filter_map, flat_map, map, slice_get, Option, Some, None}
 use Rattle.std.specs.List.{cons_option, enumerate_from, list_any}
+use Rattle.std.specs.Option.{option_or}
 use Rattle.answer_laws.proofs.Members.{Has}
 
 -- ---- options and tests
@@ -12,6 +13,22 @@ same_some e = cc
 pub false_true : false ≡ true → ⊥
 false_true e = absurd (cc)
 
+pub none_if : {A : Type 0} (o : Option A) → ((v : A) → o ≡ Some v → ⊥) → o ≡ None
+none_if None h = refl
+none_if (Some v) h = absurd (h v refl)
+
+pub or_none : {A : Type 0} (o : Option A) → option_or o None ≡ o
+or_none None = refl
+or_none (Some x) = refl
+
+pub mapped_some : {X Y : Type 0} (f : X → Y) (o : Option X) (y : Y) → option_map f o ≡ Some y → (x : X) × (o ≡ Some x) × (f x ≡ y)
+mapped_some f None y e = absurd (cc)
+mapped_some f (Some x) y e = (x, refl, same_some e)
+
+pub then_some : {X Y : Type 0} (f : X → Option Y) (o : Option X) (y : Y) → option_and_then f o ≡ Some y → (x : X) × (o ≡ Some x) × (f x ≡ Some y)
+then_some f None y e = absurd (cc)
+then_some f (Some x) y e = (x, refl, e)
+
 pub same_option : {A : Type 0} (a b : Option A) → ((v : A) → a ≡ Some v → b ≡ Some v) → ((v : A) → b ≡ Some v → a ≡ Some v) → a ≡ b
 same_option None None f g = refl
 same_option None (Some v) f g = g v refl
@@ -21,6 +38,10 @@ pub same_truth : (a b : Bool) → (a ≡ true → b ≡ true) → (b ≡ true �
 same_truth true b f g = sym (f refl)
 same_truth false true f g = g refl
 same_truth false false f g = refl
+
+pub not_both : (b : Bool) → b ≡ true → not b ≡ true → ⊥
+not_both true e f = false_true f
+not_both false e f = false_true e
 
 pub either_true : (a b : Bool) → (a || b) ≡ true → (a ≡ true) ⊎ (b ≡ true)
 either_true true b e = inl refl

@@ -22,7 +22,7 @@ use Rattle.answer_laws.proofs.HeldRows.{row_home}
 use Rattle.answer_laws.proofs.KeyedEntries.{found_entry, entry_found}
 use Rattle.answer_laws.proofs.MatchedRows.{keyed, one_keyed, matching_rising}
 use Rattle.answer_laws.proofs.Members.{Has, has_filter, filter_has}
-use Rattle.answer_laws.proofs.MoreMembers.{false_true, append_has, has_first, has_second, has_map, map_has, has_flat, flat_has, numbered_has, has_numbered}
+use Rattle.answer_laws.proofs.MoreMembers.{append_has, has_first, has_second, has_map, map_has, has_flat, flat_has, numbered_has, has_numbered, none_if, not_both}
 use Rattle.answer_laws.proofs.Pairwise.{two_filter}
 use Rattle.answer_laws.proofs.RangesOfTables.{home}
 use Rattle.answer_laws.proofs.RowOrder.{Row}
@@ -171,13 +171,9 @@ module _ (l : Layout) (d : PlainDatabase) (place : ℕ) (t : Table) (sound : IsS
   abbrev places_of : List Partition
   places_of = partitions l place t
 
-  not_both : (r : Row) (b : Bool) → b ≡ true → not b ≡ true → ⊥
-  not_both r true e f = false_true f
-  not_both r false e f = false_true e
-
   pub never_both : (r : Row) → Has r olds → Has r stay → ⊥
   never_both r h k =
-      not_both r (matches t terms r) (filter_has (matches t terms) (d place) r h).1 (filter_has (λ row. not (matches t terms row)) (d place) r k).1
+      not_both (matches t terms r) (filter_has (matches t terms) (d place) r h).1 (filter_has (λ row. not (matches t terms row)) (d place) r k).1
 
   updated : (x : Lookup) → Has x (changed_row_lookups t places_of olds new) → IsNewLookup l place t new x
   updated x h =
@@ -206,10 +202,6 @@ module _ (l : Layout) (d : PlainDatabase) (place : ℕ) (t : Table) (sound : IsS
       let changes : Has (number, places) (changed_indexes t o m) =
       has_filter (λ (y : ℕ × List ℕ). not (are_equal_in o m y.1)) (enumerate_from 0 (indexes t)) (number, places) (has_numbered 0 number number (indexes t) places i (omega arith)) (ap not e) in
       has_changed t places_of olds new o m (number, places) (home l place t r) c changes (row_home l d place t sound valid at r there)
-
-  none_if : {A : Type 0} (o : Option A) → ((v : A) → o ≡ Some v → ⊥) → o ≡ None
-  none_if None h = refl
-  none_if (Some v) h = absurd (h v refl)
 
   not_found : (r : Row) → Has r stay → find bytes_cmp (primary_key t r) (map (keyed t) olds) ≡ None
   not_found r h = none_if (find bytes_cmp (primary_key t r) (map (keyed t) olds)) (λ o e. clash o (found_entry bytes_cmp nat_list_cmp_total exact_bytes (primary_key t r) o (map (keyed t) olds) e))

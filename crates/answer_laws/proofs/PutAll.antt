@@ -13,6 +13,7 @@ use Rattle.row_locality.specs.Pairs.{bytes_cmp, put_all}
 use Rattle.row_locality.specs.Plain.{Layout, PlainDatabase, pairs_of_rows, range_pairs}
 use Rattle.sql_eval.specs.Agreement.{range_value}
 use Rattle.answer_laws.proofs.Members.{Has}
+use Rattle.answer_laws.proofs.MoreMembers.{or_none}
 
 module _ {X : Type 0} where
   pub sorted_all : (ps es : List (List ℕ × X)) → T (is_sorted bytes_cmp es) → T (is_sorted bytes_cmp (put_all ps es))
@@ -71,10 +72,6 @@ module _ {X : Type 0} where
       let same : eq_by_cmp bytes_cmp q p.0 ≡ true = (Equal-is (bytes_cmp q p.0)).1 (subst (λ (k : List ℕ). bytes_cmp q k ≡ Equal) (sym (ap (λ (x : List ℕ × X). x.0) e)) (tied_itself nat_list_cmp_total q)) in
       some_or (last_of q ps) _ (inr (p.1, ap (λ (b : Bool). cond b (Some p.1) None) same))
   has_last q (p ∷ ps) v (inr h) = some_or (last_of q ps) _ (inl (has_last q ps v h))
-
-or_none : {X : Type 0} (o : Option X) → option_or o None ≡ o
-or_none None = refl
-or_none (Some x) = refl
 
 -- what a range holds stands in the order of its keys
 pub range_sorted : (l : Layout) (d : PlainDatabase) (range : RangeId) → T (is_sorted bytes_cmp (range_pairs l d range))

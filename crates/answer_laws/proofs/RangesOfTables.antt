@@ -15,7 +15,7 @@ use Rattle.descriptors.specs.Sound.{IsSoundAmong, IsSoundCatalog, IsSoundTable}
 use Rattle.row_locality.specs.Plain.{Layout, AreRangesOf, IsRowOf, Partition, partitions, partition_regions, partition_of, first_range, range_at, range_of, regions_of}
 use Rattle.row_locality.specs.Rows.{HasType, is_by_row, region_column, region_of, text_of}
 use Rattle.sql_eval.specs.Execution.{Named}
-use Rattle.answer_laws.proofs.KeepsValid.{IsNamed}
+use Rattle.answer_laws.proofs.KeepsValid.{IsNamed, got_below}
 use Rattle.answer_laws.proofs.Members.{Has, has_itself, each_has}
 use Rattle.answer_laws.proofs.MoreMembers.{same_some, got_has, has_map, map_has, numbered_has, has_numbered}
 use Rattle.answer_laws.proofs.Positions.{first_at}
@@ -40,11 +40,6 @@ pub got_at : {X : Type 0} (xs : List X) (i : ℕ) → i < length xs → (x : X) 
 got_at [] i h = absurd (omega arith)
 got_at (x ∷ xs) zero h = (x, refl)
 got_at (x ∷ xs) (suc i) h = got_at xs i (omega arith)
-
-pub got_below : {X : Type 0} (xs : List X) (i : ℕ) (x : X) → slice_get xs i ≡ Some x → i < length xs
-got_below [] i x e = absurd (cc)
-got_below (y ∷ ys) zero x e = omega arith
-got_below (y ∷ ys) (suc i) x e = let h : i < length ys = got_below ys i x e in omega arith
 
 abbrev parts : Layout → Table → ℕ
 parts l t = length (partition_regions l.catalog t)

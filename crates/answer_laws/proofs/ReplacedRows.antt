@@ -14,7 +14,7 @@ use Rattle.answer_laws.proofs.HeldPairs.{row_is, rows_apart}
 use Rattle.answer_laws.proofs.KeepsValid.{IsNamed, with_rows_valid}
 use Rattle.answer_laws.proofs.Lists.{each_append}
 use Rattle.answer_laws.proofs.Members.{Has, each_has, has_filter, filter_has}
-use Rattle.answer_laws.proofs.MoreMembers.{append_has, has_first, has_second}
+use Rattle.answer_laws.proofs.MoreMembers.{append_has, has_first, has_second, not_both}
 use Rattle.answer_laws.proofs.Pairwise.{EachTwo, two_filter}
 use Rattle.answer_laws.proofs.RowOrder.{Row, each_ordered}
 use Rattle.answer_laws.proofs.RowWrites.{each_from}
@@ -106,13 +106,9 @@ module _ (l : Layout) (d : PlainDatabase) (n : Named) (valid : IsValid l.catalog
   stay_there : (terms : List Term) (r : Row) → Has r (filter (λ row. not (matches n.table terms row)) (d n.place)) → Has r (d n.place)
   stay_there terms r h = (filter_has (λ row. not (matches n.table terms row)) (d n.place) r h).0
 
-  clash : (b : Bool) → b ≡ true → not b ≡ true → ⊥
-  clash true e f = absurd (cc)
-  clash false e f = absurd (cc)
-
   apart : (terms : List Term) (r : Row) → Has r (filter (matches n.table terms) (d n.place)) → Has r (filter (λ row. not (matches n.table terms row)) (d n.place)) → ⊥
   apart terms r h k =
-      clash (matches n.table terms r) (filter_has (matches n.table terms) (d n.place) r h).1 (filter_has (λ row. not (matches n.table terms row)) (d n.place) r k).1
+      not_both (matches n.table terms r) (filter_has (matches n.table terms) (d n.place) r h).1 (filter_has (λ row. not (matches n.table terms row)) (d n.place) r k).1
 
   olds_apart : (terms : List Term) → EachTwo (AreApart n.table) (filter (matches n.table terms) (d n.place))
   olds_apart terms = two_filter (AreApart n.table) (matches n.table terms) (d n.place) (rows_apart l d n.place n.table valid named.at)

@@ -14,7 +14,7 @@ use Rattle.answer_laws.proofs.Members.{Has, each_has}
 use Rattle.answer_laws.proofs.MoreMembers.{flat_has, has_flat, map_has, has_map, numbered_has}
 use Rattle.answer_laws.proofs.Pairwise.{EachTwo, two_append}
 use Rattle.answer_laws.proofs.RowOrder.{Row}
-use Rattle.answer_laws.proofs.TablePairs.{IsPairIn, pair_number, rows_meet, apart_not}
+use Rattle.answer_laws.proofs.TablePairs.{IsPairIn, pair_number, rows_meet, apart_not, same_heads}
 use Rattle.answer_laws.proofs.TrackedWrites.{AtOthers, place_of}
 
 -- ---- each two of lists that are made of others
@@ -42,9 +42,6 @@ numbers_differ k (x ∷ xs) = (each_from (λ y. k ≢ y.0) (enumerate_from (k + 
 abbrev OtherKey : KeyValue → KeyValue → Type 0
 OtherKey p q = p.0 ≢ q.0
 
-heads : (m n : ℕ) (s r : List ℕ) → m ∷ s ≡ n ∷ r → m ≡ n
-heads m n s r e = cc
-
 other_keys : (t : Table) (row : Row) → EachTwo OtherKey (pairs_of t row)
 other_keys t row = (
   each_from (OtherKey (row_pair t row)) _ first,
@@ -58,12 +55,12 @@ other_keys t row = (
     first q m e =
         let r = map_has pair (enumerate_from 1 (unique_indexes t)) q m in
         let k = numbered_has 1 (unique_indexes t) r.0 r.1 in
-        let zero_is : 0 ≡ r.0.0 = heads 0 r.0.0 _ _ (e ∙ sym (ap (λ (z : KeyValue). z.0) r.2)) in
+        let zero_is : 0 ≡ r.0.0 = same_heads 0 r.0.0 _ _ (e ∙ sym (ap (λ (z : KeyValue). z.0) r.2)) in
         omega (arith, k.2)
 
     weaker : (xs : List (ℕ × List ℕ)) → EachTwo (λ x y. x.0 ≢ y.0) xs → EachTwo (λ x y. OtherKey (pair x) (pair y)) xs
     weaker [] h = tt
-    weaker (x ∷ xs) h = (each_from (λ y. OtherKey (pair x) (pair y)) xs (λ y m e. each_has (λ z. x.0 ≢ z.0) y xs h.0 m (heads x.0 y.0 _ _ e)), weaker xs h.1)
+    weaker (x ∷ xs) h = (each_from (λ y. OtherKey (pair x) (pair y)) xs (λ y m e. each_has (λ z. x.0 ≢ z.0) y xs h.0 m (same_heads x.0 y.0 _ _ e)), weaker xs h.1)
 
 -- ---- the writes of rows
 

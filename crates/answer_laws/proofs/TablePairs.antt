@@ -67,6 +67,12 @@ pair_there t row (suc i) places e =
     has_map (unique_pair t row) (enumerate_from 1 (unique_indexes t)) (suc i, places) (has_numbered 1 i (suc i) (unique_indexes t) places e (omega arith)) in
     inr (subst (λ (v : List ℕ). Has (index_key (suc i) (values_at places row), v) (index_pairs t row)) (sym (later_value t row (suc i) i (omega arith))) there)
 
+-- the key of a row in the index numbered 0 is its primary key
+pub primary_index : (t : Table) (row : Row) (n : ℕ) (places : List ℕ) → n ≡ 0 → slice_get (indexes t) n ≡ Some places → index_key n (values_at places row) ≡ primary_key t row
+primary_index t row n places z e =
+    let same : t.key ≡ places = same_some (subst (λ (m : ℕ). slice_get (indexes t) m ≡ Some places) z e) in
+    ap (λ (m : ℕ). index_key m (values_at places row)) z ∙ ap (λ (qs : List ℕ). index_key 0 (values_at qs row)) (sym same)
+
 -- ---- two pairs of one key
 
 -- rows of which two pairs have one key: they have equal values in one index, of which both pairs are
@@ -78,7 +84,7 @@ pub record Meet (t : Table) (x y : Row) (p q : KeyValue) : Type 0 where
   pub first : p ≡ pair_in t x number places
   pub second : q ≡ pair_in t y number places
 
-same_heads : (m n : ℕ) (s r : List ℕ) → m ∷ s ≡ n ∷ r → m ≡ n
+pub same_heads : (m n : ℕ) (s r : List ℕ) → m ∷ s ≡ n ∷ r → m ≡ n
 same_heads m n s r e = cc
 
 meet_in : (t : Table) (x y : Row) (p q : KeyValue) → IsSoundTable t → Fits t x → Fits t y → (number : ℕ) (places others : List ℕ) → slice_get (indexes t) number ≡ Some places

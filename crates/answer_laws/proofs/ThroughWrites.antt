@@ -15,7 +15,7 @@ use Rattle.sql_eval.specs.OwnWrites.{OwnWrites, FirstAndLast, Place, place_cmp, 
 use Rattle.sql_eval.specs.Reads.{stored_reads}
 use Rattle.answer_laws.proofs.KeyedEntries.{found_entry, entry_found}
 use Rattle.answer_laws.proofs.Members.{Has}
-use Rattle.answer_laws.proofs.MoreMembers.{same_some, same_option, has_filter_map, filter_map_has}
+use Rattle.answer_laws.proofs.MoreMembers.{same_some, same_option, has_filter_map, filter_map_has, or_none}
 use Rattle.answer_laws.proofs.PutAll.{sorted_all, last_of, find_all, last_has, has_last, range_sorted}
 use Rattle.answer_laws.proofs.TrackedWrites.{Tracks, place_total, place_exact, same_number}
 use Rattle.answer_laws.proofs.WrittenValues.{written_at}
@@ -98,10 +98,6 @@ standing_value own ask key sorted =
         r.1 ∙ sym same ∙ e
 
 -- ---- what is known through them
-
-or_none : (o : Option (List ℕ)) → option_or o None ≡ o
-or_none None = refl
-or_none (Some x) = refl
 
 settled : (b : Bool) (o : Option FirstAndLast) (old new : Option (List ℕ)) → ((x : FirstAndLast) → o ≡ Some x → x.last ≡ new) → (o ≡ None → new ≡ old)
     → option_or (joined (if b then option_map (λ x. x.last) o else None)) (cond (is_none (if b then option_map (λ x. x.last) o else None)) (cond b old None) None) ≡ cond b new None

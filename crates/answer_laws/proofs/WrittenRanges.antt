@@ -1,6 +1,6 @@
 -- What a list writes is in ranges of its tables.
-use Rattle.std.proofs.Common.{◌≡◌, ℕ, zero, suc, ◌+◌, ◌*◌, ◌<◌, Bool, true, false, List, [], ◌∷◌, length, refl, sym, ap, subst, inl, inr, arith}
-use Rattle.std.specs.Prelude.{⊤, ◌≢◌, if◌then◌else◌, Any, Contains, filter_map, map, position, slice_get, unwrap_or, Option, Some, None, option_and_then, Result, Ok, Err}
+use Rattle.std.proofs.Common.{◌≡◌, ℕ, zero, suc, ◌+◌, ◌*◌, ◌<◌, Bool, true, false, List, [], ◌∷◌, length, refl, sym, ap, subst, arith}
+use Rattle.std.specs.Prelude.{⊤, ◌≢◌, if◌then◌else◌, Any, Contains, filter_map, map, position, unwrap_or, Option, Some, None, option_and_then, Result, Ok, Err}
 use Rattle.std.specs.FinMap.Entries.{put, by_order}
 use Rattle.std.specs.List.{AllByRecursion, cons_option, enumerate_from}
 use Rattle.std.specs.Option.{option_map_or, option_eq}
@@ -38,7 +38,8 @@ use Rattle.answer_laws.proofs.Evaluations.{Gives, gives_any, gives_bind, gives_f
 use Rattle.answer_laws.proofs.KeepsValid.{IsNamed, is_named}
 use Rattle.answer_laws.proofs.LawsOfNeeds.{of_list}
 use Rattle.answer_laws.proofs.Lists.{each, each_weaker, each_append, each_flat_map, each_map}
-use Rattle.answer_laws.proofs.Members.{Has, has_itself, each_has}
+use Rattle.answer_laws.proofs.Members.{has_itself, each_has}
+use Rattle.answer_laws.proofs.MoreMembers.{got_has}
 
 -- ---- a row's range is that of a partition
 
@@ -81,11 +82,6 @@ regions_by rs (Some InPrimary) f e = absurd (cc)
 regions_by rs (Some (InRegion region)) f e = absurd (cc)
 regions_by rs (Some ByRow) f e = f
 regions_by rs (Some Global) f e = absurd (cc)
-
-got_has : {X : Type 0} (xs : List X) (i : ℕ) (x : X) → slice_get xs i ≡ Some x → Has x xs
-got_has [] i x e = absurd (cc)
-got_has (y ∷ ys) zero x e = inl (cc)
-got_has (y ∷ ys) (suc i) x e = inr (got_has ys i x e)
 
 -- a REGIONAL BY ROW table has regions
 pub some_regions : (c : Contents) (n : Named) → IsSoundCatalog c → IsNamed c n → is_by_row n.table ≡ true → regions_of c n.table ≢ []
