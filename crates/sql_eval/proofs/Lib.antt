@@ -1,1 +1,5 @@
+pub mod CheckSteps
+pub mod ColumnSteps
+pub mod ListSteps
 pub mod OneColumnExecutionLemmas
+pub mod RowSteps

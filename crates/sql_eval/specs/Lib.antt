@@ -1,4 +1,5 @@
 pub mod Agreement
+pub mod Answered
 pub mod Evaluation
 pub mod Execution
 pub mod Faults
