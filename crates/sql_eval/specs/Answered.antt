@@ -20,6 +20,11 @@ Answers defined (Ok x) = defined ≡ Ok x
 Answers defined (Err (stops.State state)) = defined ≡ Err state
 Answers defined (Err stops.Memory) = ⊤
 
+-- Why a step ends early is the fault that is defined, or want of memory.
+abbrev pub IsStopOf : {A : Type 0} → Result A SqlState → Stop → Type 0
+IsStopOf defined (stops.State state) = defined ≡ Err state
+IsStopOf defined stops.Memory = ⊤
+
 -- A value, where it isn't an integer of more than 64 bits.
 abbrev pub checked_value : Datum → Result Datum SqlState
 checked_value v = if is_in_range v then Ok v else Err S22003

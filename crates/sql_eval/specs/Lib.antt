@@ -14,3 +14,4 @@ pub mod OwnWrites
 pub mod Reads
 pub mod RowWords
 pub mod Search
+pub mod Tables

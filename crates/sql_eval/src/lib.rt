@@ -3,7 +3,10 @@
 
 mod checks;
 mod columns;
+mod execution;
+mod listing;
 mod literals;
+mod naming;
 mod one_column_execution;
 mod one_column_tables;
 mod rows;
@@ -14,6 +17,9 @@ mod twins;
 mod values;
 
 pub use checks::check;
+pub use execution::{Executed, execute};
+pub use listing::read_list;
+pub use naming::{NamedTable, named_table, table_name};
 pub use one_column_execution::{OneColumnExecution, execute_one_column};
 pub use rows::default_region;
 pub use statements::{RowChanges, delete, insert, select, update};

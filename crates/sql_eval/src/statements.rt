@@ -23,7 +23,7 @@ pub struct RowChanges {
 }
 
 /// The answer of a statement that shows no rows.
-fn count_answer(alloc: Global, verb: Verb, count: usize) -> StatementResult
+pub(crate) fn count_answer(alloc: Global, verb: Verb, count: usize) -> StatementResult
     ensures { result ≡ count_answer verb count }
 {
     StatementResult {
@@ -42,7 +42,8 @@ pub fn select(
     terms: &[Term],
     rows: &[Row],
 ) -> Result<StatementResult, Memory>
-    ensures answer { IfOk result (λ a. a ≡ rows_answer (shown_rows t.now wanted.now (filter (matches t.now terms.now) rows.now))) }
+    ensures answer { IfOk result
+        (λ a. a ≡ rows_answer (shown_rows t.now wanted.now (filter (matches t.now terms.now) rows.now))) }
 {
     let matched = matched_rows(alloc, t, terms, rows)?;
     let rows = shown_rows(alloc, t, wanted, matched.as_slice())?;
@@ -81,7 +82,8 @@ pub fn update(
     ensures old { IfOk result (λ x. x.old ≡ filter (matches t.now terms.now) rows.now) }
     ensures new { IfOk result (λ x. changed_rows t.now targets.now x.old ≡ Ok x.new) }
     ensures answer { IfOk result (λ x. x.answer ≡ count_answer verbs.Update (length x.new)) }
-    ensures fault { IfErr result (IsFaultOf (changed_rows t.now targets.now (filter (matches t.now terms.now) rows.now))) }
+    ensures fault { IfErr result
+        (IsFaultOf (changed_rows t.now targets.now (filter (matches t.now terms.now) rows.now))) }
 {
     let old = match matched_rows(alloc, t, terms, rows) {
         Ok(old) => old,
