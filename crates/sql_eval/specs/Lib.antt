@@ -1,4 +1,5 @@
 pub mod Agreement
+pub mod Answered
 pub mod Evaluation
 pub mod Execution
 pub mod Faults
@@ -13,3 +14,4 @@ pub mod OwnWrites
 pub mod Reads
 pub mod RowWords
 pub mod Search
+pub mod Tables
