@@ -1,4 +1,12 @@
 mod FactLemmas
+mod FateLemmas
 mod IntentLemmas
 mod KeyLemmas
+mod ObstacleLemmas
+mod OtherLemmas
+mod RangeLemmas
 mod RecordLemmas
+mod RowLemmas
+mod SeenLemmas
+mod TsLemmas
+mod VersionLemmas
