@@ -1,5 +1,5 @@
 -- Another attempt's intent at a key, as a read looks at it.
-use Rattle.std.proofs.Common.{◌≡◌, ◌≢◌, ◌⊎◌, ℕ, List, Option, None, Some, inl, inr, refl, sym, subst, ap, ◌∙◌}
+use Rattle.std.proofs.Common.{◌≡◌, ◌≢◌, ℕ, List, Option, None, Some, sym, subst, ap, ◌∙◌}
 use Rattle.mr_base.specs.declared.messages.Fate.{Fate}
 use Rattle.mr_base.specs.declared.messages.Fate.TheVariants as fates
 use Rattle.mr_base.specs.Timestamps.{IsBelow}

@@ -1,5 +1,5 @@
 -- The versions of a key above and below a timestamp.
-use Rattle.std.proofs.Common.{◌≡◌, ℕ, true, false, List, [], ◌∷◌, ◌++◌, Option, None, Some, IsSome, is_some, inl, inr, refl, subst, ap, sym, ◌∙◌}
+use Rattle.std.proofs.Common.{◌≡◌, ℕ, true, false, List, [], ◌∷◌, ◌++◌, Option, None, Some, is_some, inl, inr, subst, ap, sym}
 use Rattle.std.specs.Borrow.{Bor}
 use Rattle.std.specs.BTreeMap.{BTreeMap, IsUpperBound}
 use Rattle.std.specs.BTreeMap.Range.{IsEntryInRange, IsRangeOf}

@@ -1,9 +1,9 @@
 -- The newest that a read sees at a key, and the row that it gives.
-use Rattle.std.proofs.Common.{◌≡◌, ◌≢◌, ◌⊎◌, ℕ, true, false, Bool, cond, List, Option, None, Some, IsSome, is_some, option_copied, inl, inr, refl, sym, subst, ap, ◌∙◌}
+use Rattle.std.proofs.Common.{◌≡◌, ◌⊎◌, ℕ, true, false, Bool, cond, List, Option, None, Some, IsSome, is_some, option_copied, inl, inr, refl, sym, subst, ap, ◌∙◌}
 use Rattle.std.specs.Borrow.{Bor}
 use Rattle.mr_base.specs.Timestamps.{IsBelow, ts_lt}
 use Rattle.mr_base.specs.declared.timestamps.Ts.{Ts}
-use Rattle.mvcc_range.proofs.SeenLemmas.{IsSeen, from_seen, one_seen, to_seen}
+use Rattle.mvcc_range.proofs.SeenLemmas.{from_seen, one_seen, to_seen}
 use Rattle.mvcc_range.proofs.TsLemmas.{below_trans, compared, lt_below, not_itself, not_lt_below}
 use Rattle.mvcc_range.proofs.VersionLemmas.{version_of}
 use Rattle.mvcc_range.specs.Answer.{IsNewest, IsRow, Read, Sees}

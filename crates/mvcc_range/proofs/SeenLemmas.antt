@@ -1,5 +1,5 @@
 -- What a read sees as versions of a key.
-use Rattle.std.proofs.Common.{◌≡◌, ◌≢◌, ◌⊎◌, ℕ, true, false, List, Option, None, Some, IsSome, is_some, inl, inr, refl, sym, subst, ap, ◌∙◌}
+use Rattle.std.proofs.Common.{◌≡◌, ◌⊎◌, ℕ, true, false, List, Option, None, Some, IsSome, is_some, inl, inr, refl, sym, subst, ap, ◌∙◌}
 use Rattle.mr_base.specs.Timestamps.{IsBelow}
 use Rattle.mr_base.specs.declared.timestamps.Ts.{Ts}
 use Rattle.mvcc_range.proofs.OtherLemmas.{one_intent}

@@ -1,5 +1,5 @@
 -- The versions of a log, as a look-up finds them.
-use Rattle.std.proofs.Common.{◌≡◌, ◌≢◌, ◌⊎◌, ◌&&◌, ℕ, Bool, true, false, cond, List, [], ◌∷◌, Option, None, Some, MatchOption, inl, inr, refl, sym, subst, ap, ◌∙◌}
+use Rattle.std.proofs.Common.{◌≡◌, ℕ, Bool, true, false, cond, List, [], ◌∷◌, Option, None, Some, MatchOption, inl, inr, refl, sym, subst, ap, ◌∙◌}
 use Rattle.mr_base.specs.declared.ids.AttemptId.{AttemptId}
 use Rattle.mr_base.specs.declared.messages.Fate.TheVariants.{Aborted, Committed, Pushed}
 use Rattle.mr_base.specs.declared.timestamps.Ts.{Ts}
@@ -7,7 +7,7 @@ use Rattle.mvcc_range.proofs.IntentLemmas.{IsTheIntent, intent_told, laid_of, of
 use Rattle.mvcc_range.proofs.KeyLemmas.{key_or_not}
 use Rattle.mvcc_range.proofs.TsLemmas.{ts_or_not}
 use Rattle.mvcc_range.specs.Follows.{intent_at, value_at}
-use Rattle.mvcc_range.specs.KeyFacts.{is_of, same_key, same_ts, value_after}
+use Rattle.mvcc_range.specs.KeyFacts.{same_key, value_after}
 use Rattle.mvcc_range.specs.declared.key_state.KeptIntent.{KeptIntent}
 use Rattle.range_log.specs.Facts.{HasIntent, HasVersion, Laid, Makes, Version}
 use Rattle.range_log.specs.declared.entries.Entry.{Entry}

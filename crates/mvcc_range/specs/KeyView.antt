@@ -1,4 +1,4 @@
-use Rattle.std.specs.Prelude.{◌≡◌, ◌≢◌, ◌⊎◌, ℕ, List, [], Option, None, Some, IsSome, MatchOption, if◌then◌else◌, fold, nat_eq}
+use Rattle.std.specs.Prelude.{◌≡◌, ◌≢◌, ℕ, List, Option, None, Some, MatchOption, if◌then◌else◌, fold, nat_eq}
 use Rattle.std.specs.Borrow.{Bor}
 use Rattle.mr_base.specs.Timestamps.{IsBelow, ts_lt}
 use Rattle.mr_base.specs.declared.ids.AttemptId.{AttemptId}
@@ -6,7 +6,7 @@ use Rattle.mr_base.specs.declared.messages.Fate.{Fate}
 use Rattle.mr_base.specs.declared.messages.Fate.TheVariants as fates
 use Rattle.mr_base.specs.declared.messages.Known.{Known}
 use Rattle.mr_base.specs.declared.timestamps.Ts.{Ts}
-use Rattle.mvcc_range.specs.Answer.{IsClear, IsLookedAt, IsNewest, IsRow, IsUncertain, IsUnknown, Read, Sees, TellsFate}
+use Rattle.mvcc_range.specs.Answer.{IsLookedAt, IsNewest, IsRow, IsUncertain, IsUnknown, Read, Sees, TellsFate}
 use Rattle.mvcc_range.specs.Follows.{intent_at, value_at}
 use Rattle.mvcc_range.specs.KeyFacts.{version_at}
 use Rattle.mvcc_range.specs.KeyValue.{KeyValue}

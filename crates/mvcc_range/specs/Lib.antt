@@ -6,3 +6,4 @@ pub mod KeyView
 pub mod Lookups
 pub mod ReadAnswers
 pub mod RefreshAnswer
+pub mod Walks

@@ -25,7 +25,7 @@ AreInKeyOrder (p ∷ ps) = All (λ q. IsKeyBelow p.key q.key) ps × AreInKeyOrde
 
 -- The rows of a read as a list: those of the keys of its span and no others, in key order.
 pub record AreRows (entries : List Entry) (read : Read) (rows : List Pair) : Type 0 where
-  pub rows : (key value : List ℕ) → Contains rows (pair_of key value) ↔ (InSpan read.span key × IsRow entries read key value)
+  pub each : (key value : List ℕ) → Contains rows (pair_of key value) ↔ (InSpan read.span key × IsRow entries read key value)
   pub order : AreInKeyOrder rows
 
 -- An intent of this attempt, start and anchor.

@@ -6,7 +6,10 @@ mod facts;
 mod key_state;
 mod key_view;
 mod keys;
+mod lowest;
 mod read_view;
+mod reads;
+mod refreshes;
 mod replica;
 
 pub use answers::{ReadAnswer, RefreshAnswer};

@@ -1,4 +1,4 @@
-use Rattle.std.proofs.Common.{◌∙◌, sym}
+use Rattle.std.proofs.Common.{◌∙◌}
 use Rattle.mvcc_range.proofs.ObstacleLemmas.{clear_none, clear_past, clear_without, uncertain_at}
 use Rattle.mvcc_range.specs.KeyView.{as_read}
 use Rattle.mvcc_range.proofs.key_view.obstacle_at.Goals as goal

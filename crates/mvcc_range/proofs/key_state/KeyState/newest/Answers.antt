@@ -1,4 +1,4 @@
-use Rattle.std.proofs.Common.{None, Some}
+use Rattle.std.proofs.Common.{Some}
 use Rattle.mvcc_range.proofs.RangeLemmas.{greatest_of}
 use Rattle.mvcc_range.specs.KeyFacts.{IsGreatestOf}
 use Rattle.mvcc_range.specs.KeyValue.{KeyValue}
