@@ -26,9 +26,9 @@ one_version entries key r v w h k vk vt wk wt = when (value_at key r entries) (v
 pub one_seen : (entries : List Entry) (read : Read) (key : List ℕ) (v w : Version) → Sees entries read v → Sees entries read w →
     v.key ≡ key → w.key ≡ key → v.ts ≡ w.ts → v.value ≡ w.value
 one_seen entries read key v w (inl h) (inl k) vk wk t = one_version entries key v.ts v w h k vk refl wk (sym t)
-one_seen entries read key v w (inl h) (inr (i, a, b, c, d, e, n)) vk wk t = absurd (n v h (vk ∙ sym wk, t))
-one_seen entries read key v w (inr (i, a, b, c, d, e, n)) (inl k) vk wk t = absurd (n w k (wk ∙ sym vk, sym t))
-one_seen entries read key v w (inr (i, a, b, c, d, e, n)) (inr (j, x, y, z, p, q, m)) vk wk t =
+one_seen entries read key v w (inl h) (inr (i, a, b, c, d, (e, n))) vk wk t = absurd (n v h (vk ∙ sym wk, t))
+one_seen entries read key v w (inr (i, a, b, c, d, (e, n))) (inl k) vk wk t = absurd (n w k (wk ∙ sym vk, sym t))
+one_seen entries read key v w (inr (i, a, b, c, d, (e, n))) (inr (j, x, y, z, p, (q, m))) vk wk t =
     sym e ∙ ap (λ (l : Laid). l.value) (one_intent entries v.key i j a (subst (λ (k : List ℕ). HasIntent k j entries) (wk ∙ sym vk) x)) ∙ q
 
 module _ (entries : List Entry) (read : Read) (key : List ℕ) (s : KeyValue) (st : Stands entries key s) where
@@ -49,11 +49,11 @@ module _ (entries : List Entry) (read : Read) (key : List ℕ) (s : KeyValue) (s
   pub from_seen : (ts : Ts) (value : Option (List ℕ)) → IsSeen ts value → Sees entries read (version_of key ts value)
   from_seen ts value (inl h) = inl (version_there ts value h)
   from_seen ts value (inr (n, i, t, v)) =
-      inr (i, t.0.0, t.0.1, t.0.2, t.1, v, λ w h p. let is : version_at ts s ≡ Some w.value = subst (λ (x : Ts). version_at x s ≡ Some w.value) p.1 (version_known w h p.0) in cc)
+      inr (i, t.0.0, t.0.1, t.0.2, t.1, (v, λ w h p. let is : version_at ts s ≡ Some w.value = subst (λ (x : Ts). version_at x s ≡ Some w.value) p.1 (version_known w h p.0) in cc))
 
   pub to_seen : (v : Version) → Sees entries read v → v.key ≡ key → IsSeen v.ts v.value
   to_seen v (inl h) k = inl (version_known v h k)
-  to_seen v (inr (i, h, n, l, t, e, apart)) k = inr (when (version_at v.ts s) refl, i, ((subst (λ (x : List ℕ). HasIntent x i entries) k h, n, l), t), e)
+  to_seen v (inr (i, h, n, l, t, (e, apart))) k = inr (when (version_at v.ts s) refl, i, ((subst (λ (x : List ℕ). HasIntent x i entries) k h, n, l), t), e)
     where
       when : (o : Option (Option (List ℕ))) → version_at v.ts s ≡ o → o ≡ None
       when None is = refl

@@ -36,8 +36,8 @@ abbrev pub Sees : List Entry → Read → Version → Type 0
 Sees entries read v =
     HasVersion v entries
     ⊎ ((i : Laid) × HasIntent v.key i entries × (i.attempt ≢ read.attempt) × IsLookedAt read i.ts
-    × TellsFate read.known i.attempt (fates.Committed v.ts) × (i.value ≡ v.value)
-    × ((w : Version) → HasVersion w entries → ¬ IsInPlaceOf w v))
+    × TellsFate read.known i.attempt (fates.Committed v.ts)
+    × ((i.value ≡ v.value) × ((w : Version) → HasVersion w entries → ¬ IsInPlaceOf w v)))
 
 -- A fate settles an intent for a read at a timestamp.
 abbrev pub Settles : Ts → Fate → Type 0
