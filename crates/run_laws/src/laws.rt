@@ -1,0 +1,23 @@
+//! The laws of lawful histories. Each is the contract of a function that does nothing.
+
+ghost use Rattle.run_laws.specs.Laws.{EachIsPermitted, OlderIsLawful, PutWasPermitted, ServedWasPermitted};
+
+/// What happened until some moment of a lawful history is lawful.
+pub fn older_is_lawful()
+    ensures { OlderIsLawful }
+{}
+
+/// Each item of a lawful history was permitted by what happened before it.
+pub fn each_is_permitted()
+    ensures { EachIsPermitted }
+{}
+
+/// Each read that was served was permitted where it was.
+pub fn served_was_permitted()
+    ensures { ServedWasPermitted }
+{}
+
+/// Each put was permitted where it was made.
+pub fn put_was_permitted()
+    ensures { PutWasPermitted }
+{}

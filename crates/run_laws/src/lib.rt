@@ -1,0 +1,6 @@
+//! What a lawful run of a cluster of several nodes is, as definitions on its history, and what follows from them.
+#![tactic(auto)]
+
+mod laws;
+
+pub use laws::{each_is_permitted, older_is_lawful, put_was_permitted, served_was_permitted};
