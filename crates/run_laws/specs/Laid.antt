@@ -36,13 +36,13 @@ IsForPut a j start anchor asked key value (requests.Put b r s c at k v known) =
     (b ≡ a) × (r ≡ j) × (s ≡ start) × (c ≡ anchor) × (at ≡ asked) × (k ≡ key) × (v ≡ value)
 IsForPut a j start anchor asked key value _ = ⊥
 
-abbrev pub IsByLeaseAt : RangeId → Item → Bool
-IsByLeaseAt j (Made (entry.Serve a n r span at limit count how.Lease known)) = r.0 == j.0
-IsByLeaseAt j _ = false
+abbrev pub is_by_lease_at : RangeId → Item → Bool
+is_by_lease_at j (Made (entry.Serve a n r span at limit count how.Lease known)) = r.0 == j.0
+is_by_lease_at j _ = false
 
 -- How many reads were served by lease in a range.
 abbrev pub served_by_lease : RangeId → History → ℕ
-served_by_lease j h = length (filter (IsByLeaseAt j) h)
+served_by_lease j h = length (filter (is_by_lease_at j) h)
 
 -- How many spans the timestamp cache of a range's holder keeps.
 abbrev pub cache_capacity : ℕ

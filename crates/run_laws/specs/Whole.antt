@@ -45,9 +45,9 @@ abbrev pub IsNewest : (JournalEntry → Type 0) → History → Type 0
 IsNewest P (Made made ∷ h) = P made
 IsNewest P _ = ⊥
 
-abbrev pub IsCloseRefusal : RangeId → Item → Bool
-IsCloseRefusal j (Made (entry.CloseRefused r w)) = r.0 == j.0
-IsCloseRefusal j _ = false
+abbrev pub is_close_refusal : RangeId → Item → Bool
+is_close_refusal j (Made (entry.CloseRefused r w)) = r.0 == j.0
+is_close_refusal j _ = false
 
 -- What was done since the last line.
 abbrev pub since_line : History → History
@@ -58,7 +58,7 @@ since_line (x ∷ h) = x ∷ since_line h
 -- A range has closed the target of its holder's clock or a later timestamp, or it says why not.
 abbrev pub IsCloseMade : Setup → History → RangeId → Type 0
 IsCloseMade setup h j =
-    IsTrue (list_any (IsCloseRefusal j) (since_line h))
+    IsTrue (list_any (is_close_refusal j) (since_line h))
     ⊎ ((n : NodeId) × (holder_of (log_of setup h j) ≡ Some n)
     × (¬ IsBelow (closed_of (log_of setup h j)) (close_target (is_global setup h j) (reading setup h n) setup.settings)))
 
