@@ -1,5 +1,5 @@
 use Rattle.std.specs.List.{Contains}
-use Rattle.std.specs.Prelude.{List, ℕ, ◌↔◌, ◌∷◌, ◌≡◌}
+use Rattle.std.specs.Prelude.{List, Some, ℕ, ◌↔◌, ◌∷◌, ◌≡◌}
 use Rattle.mr_base.specs.Spans.{InSpan}
 use Rattle.mr_base.specs.Timestamps.{IsBelow}
 use Rattle.mr_base.specs.declared.ids.AttemptId.{AttemptId}
@@ -7,6 +7,7 @@ use Rattle.mr_base.specs.declared.ids.TxnId.{TxnId}
 use Rattle.mr_base.specs.declared.timestamps.Ts.{Ts}
 use Rattle.mvcc_range.specs.Answer.{IsRow}
 use Rattle.mvcc_range.specs.RefreshAnswer.{IsNewerWrite, Refresh}
+use Rattle.range_log.specs.declared.entries.TxnState.TheVariants as states
 use Rattle.row_locality.specs.Plain.{range_pairs}
 use Rattle.run_laws.specs.Beginnings.{IsSoundSetup}
 use Rattle.run_laws.specs.Decided.{AreDecided, Decided, replay_below}
@@ -16,7 +17,7 @@ use Rattle.run_laws.specs.Serial.{IsSerial}
 use Rattle.run_laws.specs.Visible.{DecidesAt, IsVisible}
 use Rattle.run_words.specs.Happened.{Happened, IsPlace}
 use Rattle.run_words.specs.History.{History, Item}
-use Rattle.run_words.specs.Puts.{PutMade}
+use Rattle.run_words.specs.Puts.{CommitMade, PutMade, commit, record_of}
 use Rattle.run_words.specs.Ranges.{layout_of}
 use Rattle.run_words.specs.Relations.{IsPut, IsServe, WasPut, WasServed}
 use Rattle.run_words.specs.Serving.{ServedRead, serves}
@@ -45,6 +46,18 @@ abbrev pub PutWasPermitted : Type 0
 PutWasPermitted =
     (setup : Setup) (h : History) (a : AttemptId) (put : PutMade) → IsLawful setup h → WasPut a put h
     → (x : Item) × (older : History) × IsPlace (x ∷ older) h × IsPut a put x older × IsPermitted setup older x × IsLawful setup older
+
+-- The record of an attempt that committed says so ..
+abbrev pub CommitIsRecord : Type 0
+CommitIsRecord =
+    (setup : Setup) (h : History) (a : AttemptId) (made : CommitMade) → IsLawful setup h → commit h a ≡ Some made
+    → record_of h a ≡ Some (states.Committed made.ts)
+
+-- .. and stays so.
+abbrev pub CommitStays : Type 0
+CommitStays =
+    (setup : Setup) (h older : History) (a : AttemptId) (made : CommitMade) → IsLawful setup h → IsPlace older h
+    → commit older a ≡ Some made → commit h a ≡ Some made
 
 -- Served is held: the rows of each read that was served are what the commits of the whole history make below its
 -- timestamp, whatever came later.

@@ -1,6 +1,6 @@
 //! The laws of lawful histories. Each is the contract of a function that does nothing.
 
-ghost use Rattle.run_laws.specs.Laws.{EachIsPermitted, OlderIsLawful, PutWasPermitted, ServedWasPermitted};
+ghost use Rattle.run_laws.specs.Laws.{CommitIsRecord, CommitStays, EachIsPermitted, OlderIsLawful, PutWasPermitted, ServedWasPermitted};
 
 /// What happened until some moment of a lawful history is lawful.
 pub fn older_is_lawful()
@@ -20,4 +20,14 @@ pub fn served_was_permitted()
 /// Each put was permitted where it was made.
 pub fn put_was_permitted()
     ensures { PutWasPermitted }
+{}
+
+/// The record of an attempt that committed says so.
+pub fn commit_is_record()
+    ensures { CommitIsRecord }
+{}
+
+/// A commit stays.
+pub fn commit_stays()
+    ensures { CommitStays }
 {}

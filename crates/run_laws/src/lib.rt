@@ -3,4 +3,7 @@
 
 mod laws;
 
-pub use laws::{each_is_permitted, older_is_lawful, put_was_permitted, served_was_permitted};
+pub use laws::{
+    commit_is_record, commit_stays, each_is_permitted, older_is_lawful, put_was_permitted,
+    served_was_permitted,
+};
