@@ -28,6 +28,8 @@ pub mod Runs
 pub mod Serial
 pub mod Served
 pub mod Settled
+pub mod TrueReplies
+pub mod Truthful
 pub mod UsedRanges
 pub mod Visible
 pub mod Waited

@@ -42,14 +42,14 @@ pub record IsSettingOf (setup : Setup) (h : History) (t : TxnId) (s : Setting) :
   pub list_is : IsReadAs begun.list begun.kind s.list
 
 -- The rows that a read was served: the pairs that it gives in its span, in the order of their keys.
-pub record AreRowsOf (served : ServedRead) (rows : List Pair) : Type 0 where
+pub record AreRowsServed (served : ServedRead) (rows : List Pair) : Type 0 where
   pub rising : AllPairs (λ p q. IsKeyBelow p.key q.key) rows
   pub each : (p : Pair) → Contains rows p ↔ (InSpan served.read.span p.key × IsRow served.entries served.read p.key p.value)
 
 -- A span that was fed is that of a served read, with its rows.
 pub record IsFedBy (served : ServedRead) (fed : Fed) : Type 0 where
   pub ask_is : fed.ask ≡ record { range = served.range; span = served.read.span }
-  pub rows_are : AreRowsOf served fed.rows
+  pub rows_are : AreRowsServed served fed.rows
 
 -- What was fed, first things first, is what these reads were served, the newest first.
 abbrev pub AreFed : List ServedRead → List Fed → Type 0
