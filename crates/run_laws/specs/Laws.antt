@@ -1,8 +1,10 @@
 use Rattle.std.specs.List.{Contains}
-use Rattle.std.specs.Prelude.{List, Some, ℕ, ◌↔◌, ◌∷◌, ◌≡◌}
+use Rattle.std.specs.Prelude.{List, Some, length, ℕ, ◌↔◌, ◌∷◌, ◌≡◌, ◌≤◌}
 use Rattle.mr_base.specs.Spans.{InSpan}
 use Rattle.mr_base.specs.Timestamps.{IsBelow}
 use Rattle.mr_base.specs.declared.ids.AttemptId.{AttemptId}
+use Rattle.mr_base.specs.declared.ids.NodeId.{NodeId}
+use Rattle.mr_base.specs.declared.ids.RangeId.{RangeId}
 use Rattle.mr_base.specs.declared.ids.TxnId.{TxnId}
 use Rattle.mr_base.specs.declared.timestamps.Ts.{Ts}
 use Rattle.mvcc_range.specs.Answer.{IsRow}
@@ -15,13 +17,16 @@ use Rattle.run_laws.specs.Held.{IsHeld}
 use Rattle.run_laws.specs.Lawful.{IsLawful, IsPermitted}
 use Rattle.run_laws.specs.Serial.{IsSerial}
 use Rattle.run_laws.specs.Visible.{DecidesAt, IsVisible}
+use Rattle.run_words.specs.Attempts.{Attempt, attempt_of}
 use Rattle.run_words.specs.Happened.{Happened, IsPlace}
 use Rattle.run_words.specs.History.{History, Item}
+use Rattle.run_words.specs.Logs.{applied, log_of}
 use Rattle.run_words.specs.Puts.{CommitMade, PutMade, commit, record_of}
 use Rattle.run_words.specs.Ranges.{layout_of}
 use Rattle.run_words.specs.Relations.{IsPut, IsServe, WasPut, WasServed}
 use Rattle.run_words.specs.Serving.{ServedRead, serves}
 use Rattle.run_words.specs.Setup.{Setup}
+use Rattle.run_words.specs.Transactions.{Beginning, beginning}
 
 -- What follows from the laws, for every lawful history. Each is stated for a part of a run too, which begins behind a
 -- schema change with the rows that it left.
@@ -58,6 +63,22 @@ abbrev pub CommitStays : Type 0
 CommitStays =
     (setup : Setup) (h older : History) (a : AttemptId) (made : CommitMade) → IsLawful setup h → IsPlace older h
     → commit older a ≡ Some made → commit h a ≡ Some made
+
+-- An attempt stays as it was begun, and a transaction too.
+abbrev pub AttemptStays : Type 0
+AttemptStays =
+    (setup : Setup) (h older : History) (a : AttemptId) (x : Attempt) → IsLawful setup h → IsPlace older h
+    → attempt_of older a ≡ Some x → attempt_of h a ≡ Some x
+
+abbrev pub BeginningStays : Type 0
+BeginningStays =
+    (setup : Setup) (h older : History) (t : TxnId) (b : Beginning) → IsLawful setup h → IsPlace older h
+    → beginning older t ≡ Some b → beginning h t ≡ Some b
+
+-- No node has applied more than stands in the log.
+abbrev pub AppliedIsWithin : Type 0
+AppliedIsWithin =
+    (setup : Setup) (h : History) (n : NodeId) (j : RangeId) → IsLawful setup h → applied setup h n j ≤ length (log_of setup h j)
 
 -- Served is held: the rows of each read that was served are what the commits of the whole history make below its
 -- timestamp, whatever came later.

@@ -1,6 +1,6 @@
 //! The laws of lawful histories. Each is the contract of a function that does nothing.
 
-ghost use Rattle.run_laws.specs.Laws.{CommitIsRecord, CommitStays, EachIsPermitted, OlderIsLawful, PutWasPermitted, ServedWasPermitted};
+ghost use Rattle.run_laws.specs.Laws.{AppliedIsWithin, AttemptStays, BeginningStays, CommitIsRecord, CommitStays, EachIsPermitted, OlderIsLawful, PutWasPermitted, ServedWasPermitted};
 
 /// What happened until some moment of a lawful history is lawful.
 pub fn older_is_lawful()
@@ -30,4 +30,19 @@ pub fn commit_is_record()
 /// A commit stays.
 pub fn commit_stays()
     ensures { CommitStays }
+{}
+
+/// An attempt stays as it was begun.
+pub fn attempt_stays()
+    ensures { AttemptStays }
+{}
+
+/// A transaction stays as it began.
+pub fn beginning_stays()
+    ensures { BeginningStays }
+{}
+
+/// No node has applied more than stands in the log.
+pub fn applied_is_within()
+    ensures { AppliedIsWithin }
 {}
