@@ -1,6 +1,7 @@
 use Rattle.std.specs.Prelude.{if◌then◌else◌, [], ◌∷◌, Option, Some, None}
 use Rattle.mr_base.specs.declared.ids.AttemptId.{AttemptId}
 use Rattle.mr_base.specs.declared.ids.NodeId.{NodeId}
+use Rattle.mr_base.specs.declared.ids.RangeId.{RangeId}
 use Rattle.mr_base.specs.declared.ids.TxnId.{TxnId}
 use Rattle.mr_base.specs.declared.ids.MsgId.{MsgId}
 use Rattle.journal.specs.declared.entries.Shown.{Shown}
@@ -27,6 +28,17 @@ asker_of (requests.PushWriter attempt range other start other_start) = attempt
 asker_of (requests.Commit attempt range at) = attempt
 asker_of (requests.Abort attempt range) = attempt
 asker_of (requests.Resolve attempt range keys fate) = attempt
+
+-- The range that is asked.
+abbrev pub range_asked : Request → RangeId
+range_asked (requests.Read attempt range span at limit known) = range
+range_asked (requests.Refresh attempt range span from at known) = range
+range_asked (requests.Put attempt range start anchor at key value known) = range
+range_asked (requests.PushReader attempt range other at) = range
+range_asked (requests.PushWriter attempt range other start other_start) = range
+range_asked (requests.Commit attempt range at) = range
+range_asked (requests.Abort attempt range) = range
+range_asked (requests.Resolve attempt range keys fate) = range
 
 -- The request that a message is.
 abbrev pub request_of : Shown → Option Request

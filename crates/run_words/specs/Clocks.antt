@@ -1,5 +1,6 @@
 use Rattle.std.specs.Prelude.{ℕ, ◌+◌, ◌≤◌, ◌==◌, max, if◌then◌else◌, List, [], ◌∷◌, map, Option, Some, None}
 use Rattle.std.specs.List.{Contains}
+use Rattle.std.specs.Option.{option_map_or}
 use Rattle.mr_base.specs.declared.ids.NodeId.{NodeId}
 use Rattle.mr_base.specs.declared.ids.MsgId.{MsgId}
 use Rattle.mr_base.specs.declared.timestamps.Reading.{Reading}
@@ -9,7 +10,7 @@ use Rattle.journal.specs.declared.events.Event.TheVariants as events
 use Rattle.hlc.specs.Readings.{greater, nothing, reading_of}
 use Rattle.run_words.specs.History.{Item, Ran, Ticked, Made, History}
 use Rattle.run_words.specs.Messages.{Mail, mail}
-use Rattle.run_words.specs.Setup.{Setup, first_clock, node_ids}
+use Rattle.run_words.specs.Setup.{Setup, node_of, node_ids}
 
 -- The clocks of the nodes. (Hybrid logical clocks: Taft et al., SIGMOD 2020, in this project's profile.)
 
@@ -21,7 +22,7 @@ phys_after _ n old = old
 
 -- The physical clock of a node, in milliseconds. Stops and starts don't change it.
 abbrev pub phys : Setup → History → NodeId → ℕ
-phys setup [] n = first_clock setup n
+phys setup [] n = option_map_or (λ node. node.clock) (node_of setup n) 0
 phys setup (x ∷ h) n = phys_after x n (phys setup h n)
 
 abbrev pub greatest_wall : List ℕ → ℕ
@@ -46,9 +47,9 @@ schema_after (Made (entry.Schema ts)) old = Some ts
 schema_after _ old = old
 
 -- The timestamp of the last schema change.
-abbrev pub schema : History → Option Ts
-schema [] = None
-schema (x ∷ h) = schema_after x (schema h)
+abbrev pub schema : Setup → History → Option Ts
+schema setup [] = setup.schema
+schema setup (x ∷ h) = schema_after x (schema setup h)
 
 -- What a clock that starts anew has seen: the last schema change, which every clock takes in.
 abbrev pub seen_at_start : Option Ts → Reading
@@ -74,10 +75,10 @@ seen_after _ mails changed n old = old
 
 -- The greatest reading of the starts that a node gave and the clocks that it took in since it started, and of
 -- the last schema change: what its clock keeps.
-abbrev pub seen : History → NodeId → Reading
-seen [] n = nothing
-seen (x ∷ h) n = seen_after x (mail h) (schema h) n (seen h n)
+abbrev pub seen : Setup → History → NodeId → Reading
+seen setup [] n = option_map_or (λ node. node.seen) (node_of setup n) nothing
+seen setup (x ∷ h) n = seen_after x (mail h) (schema setup h) n (seen setup h n)
 
 -- What the clock of a node shows.
 abbrev pub reading : Setup → History → NodeId → Reading
-reading setup h n = reading_of (phys setup h n) (seen h n)
+reading setup h n = reading_of (phys setup h n) (seen setup h n)

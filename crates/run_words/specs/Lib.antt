@@ -3,6 +3,7 @@ pub mod Attempts
 pub mod Clocks
 pub mod Context
 pub mod Happened
+pub mod Hints
 pub mod History
 pub mod Laws
 pub mod Logs
@@ -11,6 +12,7 @@ pub mod Nodes
 pub mod Puts
 pub mod Ranges
 pub mod Relations
+pub mod Requests
 pub mod Serving
 pub mod Setup
 pub mod Steps

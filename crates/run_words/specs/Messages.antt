@@ -1,4 +1,4 @@
-use Rattle.std.specs.Prelude.{◌==◌, Bool, true, false, not, if◌then◌else◌, List, [], ◌∷◌, ◌++◌, Option, Some, None}
+use Rattle.std.specs.Prelude.{ℕ, ◌+◌, ◌==◌, Bool, true, false, not, if◌then◌else◌, List, [], ◌∷◌, ◌++◌, Option, Some, None}
 use Rattle.std.specs.List.{filter}
 use Rattle.std.specs.Option.{option_and_then}
 use Rattle.mr_base.specs.declared.ids.NodeId.{NodeId}
@@ -8,6 +8,7 @@ use Rattle.journal.specs.declared.entries.Shown.{Shown}
 use Rattle.journal.specs.declared.entries.Shown.TheVariants as shown
 use Rattle.journal.specs.declared.entries.JournalEntry.TheVariants as entry
 use Rattle.run_words.specs.History.{Item, Made, History}
+use Rattle.run_words.specs.Setup.{Setup}
 use Rattle.run_words.specs.Steps.{step_of, answered_in, taken_in}
 
 -- What was sent, and what became of it. (This project's profile.)
@@ -20,6 +21,15 @@ pub record Mail : Type 0 where
   pub clock : Option Reading
   pub body : Shown
   pub answers : Option MsgId
+
+abbrev pub messages_after : Item → ℕ → ℕ
+messages_after (Made (entry.Sent id from to clock body)) old = old + 1
+messages_after _ old = old
+
+-- How many messages were sent.
+abbrev pub messages : Setup → History → ℕ
+messages setup [] = setup.messages
+messages setup (x ∷ h) = messages_after x (messages setup h)
 
 -- The message that is answered: a request answers none.
 abbrev pub answers_with : Shown → Option MsgId → Option MsgId

@@ -25,7 +25,7 @@ use Rattle.run_words.specs.Messages.{handled}
 -- applied the log.
 abbrev pub MayServe : Setup → History → How → NodeId → RangeId → Ts → Option ℕ → Type 0
 MayServe setup h how.Lease n j at limit =
-    (lease : Lease) × (lease_of (prefix setup h n j) ≡ Some lease) × ServesByLease lease n (boot h n) at limit
+    (lease : Lease) × (lease_of (prefix setup h n j) ≡ Some lease) × ServesByLease lease n (boot setup h n) at limit
 MayServe setup h how.Closure n j at limit = ServesByClosure (closed_of (prefix setup h n j)) at limit
 
 -- A node holds the lease of a range: the last lease that it has applied is the log's last and names it at its
@@ -33,7 +33,7 @@ MayServe setup h how.Closure n j at limit = ServesByClosure (closed_of (prefix s
 abbrev pub IsHolder : Setup → History → NodeId → RangeId → Type 0
 IsHolder setup h n j =
     (lease : Lease) × (lease_of (prefix setup h n j) ≡ Some lease) × (lease_of (log_of setup h j) ≡ Some lease)
-    × (lease.holder ≡ n) × (lease.boot ≡ boot h n)
+    × (lease.holder ≡ n) × (lease.boot ≡ boot setup h n)
 
 -- A read or refresh that was served: where, from how many entries and which, by what right, and with the request
 -- in whose step, where that wasn't the gateway's own.

@@ -8,6 +8,7 @@ use Rattle.journal.specs.declared.entries.JournalEntry.TheVariants as entry
 use Rattle.journal.specs.declared.events.Event.{Event}
 use Rattle.journal.specs.declared.events.Event.TheVariants as events
 use Rattle.run_words.specs.History.{Item, Made, History}
+use Rattle.run_words.specs.Setup.{Setup}
 use Rattle.run_words.specs.Steps.{event_of}
 
 -- How a transaction began, and how far it is. (This project's profile.)
@@ -72,6 +73,6 @@ attempts_after (Made (entry.Retry txn attempt cause)) old = old + 1
 attempts_after _ old = old
 
 -- How many attempts were begun, by all transactions.
-abbrev pub attempts : History → ℕ
-attempts [] = 0
-attempts (x ∷ h) = attempts_after x (attempts h)
+abbrev pub attempts : Setup → History → ℕ
+attempts setup [] = setup.attempts
+attempts setup (x ∷ h) = attempts_after x (attempts setup h)

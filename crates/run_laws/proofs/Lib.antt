@@ -1,0 +1,4 @@
+pub mod AppliedLemmas
+pub mod AttemptLemmas
+pub mod CommitLemmas
+pub mod LawfulLemmas
