@@ -20,7 +20,7 @@ abbrev pub IsTheIntent : List Entry → List ℕ → Option KeptIntent → Type 
 IsTheIntent entries key o =
     MatchOption o ((i : Laid) → ¬ HasIntent key i entries) (λ k. HasIntent key (laid_of k) entries × ((i : Laid) → HasIntent key i entries → i ≡ laid_of k))
 
-of_or_not : (a : AttemptId) (k : KeptIntent) → ((is_of a k ≡ true) × (a ≡ k.intent.attempt)) ⊎ ((is_of a k ≡ false) × (a ≢ k.intent.attempt))
+pub of_or_not : (a : AttemptId) (k : KeptIntent) → ((is_of a k ≡ true) × (a ≡ k.intent.attempt)) ⊎ ((is_of a k ≡ false) × (a ≢ k.intent.attempt))
 of_or_not a k = when (nat_eq k.intent.attempt.0 a.0) refl
   where
     same : a.0 ≡ k.intent.attempt.0 → a ≡ k.intent.attempt

@@ -1,4 +1,17 @@
 mod FactLemmas
+mod FateLemmas
 mod IntentLemmas
 mod KeyLemmas
+mod KeyOrder
+mod LeastWalk
+mod LookupLemmas
+mod ObstacleLemmas
+mod OtherLemmas
+mod RangeLemmas
+mod ReadWalk
 mod RecordLemmas
+mod RefreshWalk
+mod RowLemmas
+mod SeenLemmas
+mod TsLemmas
+mod VersionLemmas

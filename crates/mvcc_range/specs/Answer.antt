@@ -7,7 +7,7 @@ use Rattle.mr_base.specs.declared.messages.Fate.TheVariants as fates
 use Rattle.mr_base.specs.declared.messages.Known.{Known}
 use Rattle.mr_base.specs.declared.spans.Span.{Span}
 use Rattle.mr_base.specs.declared.timestamps.Ts.{Ts}
-use Rattle.range_log.specs.Facts.{Laid, HasIntent, Version, HasVersion}
+use Rattle.range_log.specs.Facts.{Laid, HasIntent, Version, HasVersion, IsInPlaceOf}
 use Rattle.range_log.specs.declared.entries.Entry.{Entry}
 
 -- What a read of a log gives. (Uncertainty and intents: Taft et al., SIGMOD 2020.)
@@ -31,12 +31,13 @@ abbrev pub IsLookedAt : Read → Ts → Type 0
 IsLookedAt read ts = (¬ IsBelow read.at ts) ⊎ ((limit : ℕ) × (read.limit ≡ Some limit) × (ts.wall ≤ limit))
 
 -- What a read sees as a version: a version, or an intent of another attempt that it looks at and whose fate
--- it knows as committed.
+-- it knows as committed, where the key has no version of that timestamp.
 abbrev pub Sees : List Entry → Read → Version → Type 0
 Sees entries read v =
     HasVersion v entries
     ⊎ ((i : Laid) × HasIntent v.key i entries × (i.attempt ≢ read.attempt) × IsLookedAt read i.ts
-    × TellsFate read.known i.attempt (fates.Committed v.ts) × (i.value ≡ v.value))
+    × TellsFate read.known i.attempt (fates.Committed v.ts)
+    × ((i.value ≡ v.value) × ((w : Version) → HasVersion w entries → ¬ IsInPlaceOf w v)))
 
 -- A fate settles an intent for a read at a timestamp.
 abbrev pub Settles : Ts → Fate → Type 0

@@ -1,4 +1,6 @@
-use Rattle.std.specs.Prelude.{ℕ, Bool, List, [], Option, None, Some, if◌then◌else◌, ◌&&◌, nat_eq}
+use Rattle.std.specs.Prelude.{◌≡◌, ℕ, Bool, List, [], Option, None, Some, IsSome, MatchOption, if◌then◌else◌, ◌&&◌, nat_eq}
+use Rattle.mr_base.specs.Timestamps.{IsBelow}
+use Rattle.std.specs.Borrow.{Bor}
 use Rattle.std.specs.BTreeMap.{is_at}
 use Rattle.std.specs.Cmp.Lexicographic.{slice_cmp}
 use Rattle.std.specs.Map.{lookup}
@@ -24,6 +26,28 @@ same_ts a b = is_eq (ts_cmp a b)
 -- the value of the version of a timestamp; a version without a value is a deletion
 abbrev pub version_at : Ts → KeyValue → Option (Option (List ℕ))
 version_at ts s = lookup (is_at (ts_cmp ts)) s.versions
+
+-- the greatest timestamp of a version
+abbrev pub IsGreatestOf : KeyValue → Option Ts → Type 0
+IsGreatestOf s answer =
+    MatchOption answer
+    ((q : Ts) → version_at q s ≡ None)
+    (λ ts. IsSome (version_at ts s) × ((q : Ts) → IsSome (version_at q s) → ¬ IsBelow ts q))
+
+-- the least timestamp of a version above another
+abbrev pub IsFirstAbove : KeyValue → Ts → Option Ts → Type 0
+IsFirstAbove s at answer =
+    MatchOption answer
+    ((q : Ts) → IsBelow at q → version_at q s ≡ None)
+    (λ ts. IsBelow at ts × IsSome (version_at ts s) × ((q : Ts) → IsBelow at q → IsSome (version_at q s) → ¬ IsBelow q ts))
+
+-- the newest version below a timestamp
+abbrev pub IsLastBelow : KeyValue → Ts → Option (Ts × Bor (Option (List ℕ))) → Type 0
+IsLastBelow s at answer =
+    MatchOption answer
+    ((q : Ts) → IsBelow q at → version_at q s ≡ None)
+    (λ p. IsBelow p.0 at × (version_at p.0 s ≡ Some p.1.now)
+    × ((q : Ts) → IsBelow q at → IsSome (version_at q s) → ¬ IsBelow p.0 q))
 
 -- an intent without its value
 abbrev pub intent_of : Option KeptIntent → Option Intent

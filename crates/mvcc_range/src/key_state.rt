@@ -1,12 +1,13 @@
 //! What stands at a key: its versions and its intent.
 
 ghost use Rattle.std.specs.Prelude.{◌≡◌, [], OnOk, OnErr, Some, None, if◌then◌else◌};
-ghost use Rattle.mvcc_range.specs.KeyFacts.{intent_after, intent_of, same_ts, value_after, version_at};
+ghost use Rattle.mvcc_range.specs.KeyFacts.{IsFirstAbove, IsGreatestOf, IsLastBelow, intent_after, intent_of, same_ts, value_after, version_at};
 
 use mr_base::{AttemptId, Bytes, CloneIn, Fate, Memory, RangeId, Ts};
 use std::alloc::Global;
 use std::collections::BTreeMap;
 use std::marker::Model;
+use std::ops::Bound::{Excluded, Unbounded};
 
 /// An intent: the attempt that laid it, when that began, the range of its record, and its timestamp.
 #[derive(Clone, Copy)]
@@ -58,6 +59,43 @@ impl KeyState {
             Some(kept) => Some(kept.intent),
             None => None,
         }
+    }
+
+    /// The intent at the key, with its value.
+    pub fn kept(&self) -> &Option<KeptIntent>
+        ensures { result.now ≡ self.now.intent }
+    {
+        &self.intent
+    }
+
+    /// The greatest timestamp of a version.
+    pub fn newest(&self) -> Option<Ts>
+        ensures { IsGreatestOf self.now result }
+    {
+        let Some((ts, _)) = self.versions.last_key_value() else {
+            return None;
+        };
+        Some(*ts)
+    }
+
+    /// The least timestamp of a version above another.
+    pub fn first_above(&self, at: Ts) -> Option<Ts>
+        ensures { IsFirstAbove self.now at result }
+    {
+        let Some((ts, _)) = self.versions.range((Excluded(at), Unbounded)).next() else {
+            return None;
+        };
+        Some(*ts)
+    }
+
+    /// The newest version below a timestamp, with its value.
+    pub fn last_below(&self, at: Ts) -> Option<(Ts, &Option<Bytes>)>
+        ensures { IsLastBelow self.now at result }
+    {
+        let Some((ts, value)) = self.versions.range(..at).next_back() else {
+            return None;
+        };
+        Some((*ts, value))
     }
 
     /// Lays an intent in the place of what intent there is.
