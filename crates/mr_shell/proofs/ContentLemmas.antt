@@ -1,9 +1,20 @@
 -- Bytes that come one after the other, as lines.
-use Rattle.std.proofs.Common.{◌≢◌, ℕ, List, [], ◌∷◌, ◌++◌, Option, refl, ap, sym, ◌∙◌, append_assoc, append-nil}
-use Rattle.std.specs.Prelude.{All}
+use Rattle.std.proofs.Common.{◌≡◌, ◌≢◌, ℕ, List, [], ◌∷◌, ◌++◌, Option, refl, ap, sym, ◌∙◌, append_assoc, append-nil}
+use Rattle.std.specs.Prelude.{◌⊎◌, All}
 use Rattle.std.proofs.lemmas.List.Elements.{All-append, All-cons, All-nil}
 use Rattle.std.specs.Io.KnownBytes.{IsAtEnd}
-use Rattle.mr_shell.specs.Content.{AreLines, AreAllLines, BeginsWith, IsContent, IsCut, IsWithinLine}
+use Rattle.mr_shell.specs.Content.{AreLines, AreAllLines, IsContent, IsCut, IsWithinLine}
+
+-- Bytes begin with these lines.
+pub record BeginsWith (bytes : List ℕ) (lines : List (List ℕ)) : Type 0 where
+  pub front : List ℕ
+  pub beyond : List ℕ
+  pub ended : AreLines front lines
+  pub whole : bytes ≡ front ++ beyond
+
+-- The bytes taken of a source, of which these are left, begin with these lines.
+abbrev pub AreFirstLines : (taken : List ℕ) → (left : Option (List ℕ)) → (lines : List (List ℕ)) → Type 0
+AreFirstLines taken left lines = BeginsWith taken lines ⊎ AreAllLines taken left lines
 
 all_and : (P : ℕ → Type 0) (xs : List ℕ) (b : ℕ) → All P xs → P b → All P (xs ++ b ∷ [])
 all_and P xs b h k = All-append P xs (b ∷ []) h (All-cons P b [] k (All-nil P))

@@ -1,93 +1,120 @@
--- How a run ends, by what its source holds.
-use Rattle.std.proofs.Common.{◌≡◌, ◌≢◌, ℕ, List, [], ◌∷◌, ◌++◌, Option, Some, None, refl, ap, sym, ◌∙◌, subst, inl, inr, length, length-append, append-nil, arith}
+-- How a command ends, by what its source holds.
+use Rattle.std.proofs.Common.{◌≡◌, ◌≢◌, ℕ, List, [], ◌∷◌, ◌++◌, Option, Some, None, refl, ap, sym, ◌∙◌, subst, inl, inr, length, length-append, append-nil, append_assoc, arith}
 use Rattle.std.specs.Prelude.{◌⊎◌}
 use Rattle.std.specs.Io.KnownBytes.{prepend_known}
 use Rattle.journal.specs.declared.entries.JournalEntry.{JournalEntry}
-use Rattle.mr_shell.specs.Content.{AreFirstLines, BeginsWith, IsCut, with_last}
+use Rattle.mr_shell.specs.Content.{AreTakenFor, IsCut, IsWithinLimit, with_last}
+use Rattle.mr_shell.specs.Course.{Course, Tells, Text}
 use Rattle.mr_shell.specs.Ends.{status_of}
-use Rattle.mr_shell.specs.Run.{HasEnded, IsFaultless, IsFaulty, IsTooLarge, IsWithinLimit}
-use Rattle.mr_shell.specs.Story.{HasFault, Story, Tells}
-use Rattle.mr_shell.specs.Texts.{Report}
+use Rattle.mr_shell.specs.Gives.{EndWithinLimit, IsFaultless, IsFaulty, IsTooLarge, LinesGive}
+use Rattle.mr_shell.specs.LinesEnded.{HasEnded}
 use Rattle.mr_shell.specs.declared.outcome.End.{End}
 use Rattle.mr_shell.specs.declared.outcome.End.TheVariants as ends
-use Rattle.mr_shell.proofs.ContentLemmas.{begins_more}
+use Rattle.mr_shell.proofs.ContentLemmas.{AreFirstLines, BeginsWith, begins_more}
 use Rattle.mr_shell.proofs.OneCut.{begins_first, first_of_all, within_first}
-use Rattle.mr_shell.proofs.OneStory.{no_fault}
-
--- lines without a fault, of which one line would be the next
-all_without : (taken left : List ℕ) (lines : List (List ℕ)) (line : List ℕ) (all : List (List ℕ)) (rest : List ℕ) (known : List (List ℕ)) (whole story : Story) (fault : ℕ) → known ≡ with_last rest all → IsCut (taken ++ left) all rest → Tells known whole → AreFirstLines taken (Some left) (line ∷ lines) → Tells lines story → HasFault story line fault → ⊥
-all_without taken left lines line all rest known whole story fault is cut tells first before has =
-    let p = first_of_all taken left (line ∷ lines) all rest first cut in
-    no_fault known p.0 lines line whole story fault (is ∙ p.1) tells before has
 
 -- a run that goes beyond the limit takes more bytes than there are
-pub too_few : (bytes taken left first : List ℕ) (beyond : ℕ) → bytes ≡ taken ++ left → IsWithinLimit bytes → taken ≡ first ++ beyond ∷ [] → length first ≡ 16777216 → ⊥
+too_few : (bytes taken left first : List ℕ) (beyond : ℕ) → bytes ≡ taken ++ left → IsWithinLimit bytes → taken ≡ first ++ beyond ∷ [] → length first ≡ 16777216 → ⊥
 too_few bytes taken left first beyond e within is long =
     omega (arith, within, ap (λ (l : List ℕ). length l) e, length-append taken left, ap (λ (l : List ℕ). length l) is, length-append first (beyond ∷ []), long)
 
 -- a run within the limit doesn't come to the end of more bytes
-pub too_many : (bytes taken left first beyond : List ℕ) → bytes ≡ taken ++ left → bytes ≡ first ++ beyond → IsWithinLimit taken → left ≡ [] → length first ≡ 16777216 → beyond ≢ [] → ⊥
+too_many : (bytes taken left first beyond : List ℕ) → bytes ≡ taken ++ left → bytes ≡ first ++ beyond → IsWithinLimit taken → left ≡ [] → length first ≡ 16777216 → beyond ≢ [] → ⊥
 too_many bytes taken left first [] e is within ended long some = some refl
 too_many bytes taken left first (b ∷ beyond) e is within ended long some =
     omega (arith, within, ap (λ (l : List ℕ). length l) (sym e ∙ is), length-append taken left, ap (λ (l : List ℕ). length l) ended, length-append first (b ∷ beyond), long)
 
-pub runs_whole : (end : End) (old left : Option (List ℕ)) (report : Report) (taken : List ℕ) (journal : List JournalEntry) (written : Option (List ℕ)) → old ≡ prepend_known taken left → IsFaultless old → HasEnded end taken left report journal written → end ≢ ends.Read → end ≢ ends.Write → (status_of end ≡ 0) ⊎ (status_of end ≡ 5)
-runs_whole end None left report taken journal written told faultless h read write = absurd faultless
-runs_whole end (Some bytes) None report taken journal written told faultless h read write = cc
-runs_whole ends.Whole (Some bytes) (Some left) report taken journal written told faultless h read write = inl refl
-runs_whole ends.Memory (Some bytes) (Some left) report taken journal written told faultless h read write = inr refl
-runs_whole ends.Read (Some bytes) (Some left) report taken journal written told faultless h read write = absurd (read refl)
-runs_whole ends.Write (Some bytes) (Some left) report taken journal written told faultless h read write = absurd (write refl)
-runs_whole ends.Usage (Some bytes) (Some left) report taken journal written told faultless h read write = absurd h.2
-runs_whole (ends.Fault fault number) (Some bytes) (Some left) report taken journal written told faultless h read write =
-    let e : bytes ≡ taken ++ left = cc in
-    let all = faultless.2 in
-    let f = h.2 in
-    absurd (all_without taken left h.0 f.0 all.ended all.rest faultless.1 faultless.3 h.1 fault all.last (subst (λ (l : List ℕ). IsCut l all.ended all.rest) e all.cut) faultless.4 f.1 h.3.tells f.2)
-runs_whole ends.Size (Some bytes) (Some left) report taken journal written told faultless h read write =
-    let e : bytes ≡ taken ++ left = cc in
-    let f = h.2 in
-    absurd (too_few bytes taken left f.0 f.2 e faultless.0 f.3 f.4)
+-- what was taken for lines begins with them
+first_lines : (taken : List ℕ) (left : Option (List ℕ)) (lines : List (List ℕ)) → AreTakenFor taken left lines → AreFirstLines taken left lines
+first_lines taken left lines (inl h) = inl (record { front = h.front; beyond = h.ahead; ended = h.ended; whole = h.whole })
+first_lines taken left lines (inr h) = inr h
 
-pub finds_fault : (end : End) (old left : Option (List ℕ)) (report : Report) (taken : List ℕ) (journal : List JournalEntry) (written : Option (List ℕ)) → old ≡ prepend_known taken left → IsFaulty old → HasEnded end taken left report journal written → end ≢ ends.Read → end ≢ ends.Write → (status_of end ≡ 1) ⊎ (status_of end ≡ 5)
-finds_fault end None left report taken journal written told faulty h read write = absurd faulty
-finds_fault end (Some bytes) None report taken journal written told faulty h read write = cc
-finds_fault (ends.Fault fault number) (Some bytes) (Some left) report taken journal written told faulty h read write = inl refl
-finds_fault ends.Memory (Some bytes) (Some left) report taken journal written told faulty h read write = inr refl
-finds_fault ends.Read (Some bytes) (Some left) report taken journal written told faulty h read write = absurd (read refl)
-finds_fault ends.Write (Some bytes) (Some left) report taken journal written told faulty h read write = absurd (write refl)
-finds_fault ends.Usage (Some bytes) (Some left) report taken journal written told faulty h read write = absurd h.2
-finds_fault ends.Whole (Some bytes) (Some left) report taken journal written told faulty h read write =
-    let e : bytes ≡ taken ++ left = cc in
-    let all = h.2.0 in
-    let same : taken ≡ bytes ++ [] = sym (append-nil taken) ∙ (ap (λ (l : List ℕ). taken ++ l) (sym all.source) ∙ (sym e ∙ sym (append-nil bytes))) in
-    absurd (all_without bytes [] faulty.2 faulty.1 all.ended all.rest h.0 h.1 faulty.4 faulty.6 all.last (subst (λ (l : List ℕ). IsCut l all.ended all.rest) same all.cut) h.3.tells faulty.3 faulty.5 faulty.7)
-finds_fault ends.Size (Some bytes) (Some left) report taken journal written told faulty h read write =
-    let e : bytes ≡ taken ++ left = cc in
-    let f = h.2 in
-    absurd (too_few bytes taken left f.0 f.2 e faulty.0 f.3 f.4)
+held_lines : (bytes : List ℕ) (lines : List (List ℕ)) → EndWithinLimit bytes lines → AreFirstLines bytes (Some []) lines
+held_lines bytes lines (inl h) = inl (record { front = h.0; beyond = h.1; ended = h.2; whole = h.3 })
+held_lines bytes lines (inr h) = inr h.0
 
 -- lines that a run within the limit took end within the limit
-pub first_begins : (bytes taken left first beyond : List ℕ) (lines : List (List ℕ)) → bytes ≡ taken ++ left → bytes ≡ first ++ beyond → IsWithinLimit taken → length first ≡ 16777216 → beyond ≢ [] → AreFirstLines taken (Some left) lines → BeginsWith first lines
+first_begins : (bytes taken left first beyond : List ℕ) (lines : List (List ℕ)) → bytes ≡ taken ++ left → bytes ≡ first ++ beyond → IsWithinLimit taken → length first ≡ 16777216 → beyond ≢ [] → AreFirstLines taken (Some left) lines → BeginsWith first lines
 first_begins bytes taken left first beyond lines e is within long some (inl h) =
     let p = within_first taken left first beyond (sym e ∙ is) (omega (arith, within, long)) in
     subst (λ (l : List ℕ). BeginsWith l lines) (sym p.1) (begins_more taken p.0 lines h)
 first_begins bytes taken left first beyond lines e is within long some (inr h) = absurd (too_many bytes taken left first beyond e is within h.source long some)
 
-pub finds_size : (end : End) (old left : Option (List ℕ)) (report : Report) (taken : List ℕ) (journal : List JournalEntry) (written : Option (List ℕ)) → old ≡ prepend_known taken left → IsTooLarge old → HasEnded end taken left report journal written → end ≢ ends.Read → end ≢ ends.Write → (status_of end ≡ 7) ⊎ (status_of end ≡ 5)
-finds_size end None left report taken journal written told large h read write = absurd large
-finds_size end (Some bytes) None report taken journal written told large h read write = cc
-finds_size ends.Size (Some bytes) (Some left) report taken journal written told large h read write = inl refl
-finds_size ends.Memory (Some bytes) (Some left) report taken journal written told large h read write = inr refl
-finds_size ends.Read (Some bytes) (Some left) report taken journal written told large h read write = absurd (read refl)
-finds_size ends.Write (Some bytes) (Some left) report taken journal written told large h read write = absurd (write refl)
-finds_size ends.Usage (Some bytes) (Some left) report taken journal written told large h read write = absurd h.2
-finds_size ends.Whole (Some bytes) (Some left) report taken journal written told large h read write =
+-- lines that end within the limit are the first of those up to it
+held_begins : (bytes taken left first : List ℕ) (beyond : ℕ) (lines : List (List ℕ)) → bytes ≡ taken ++ left → taken ≡ first ++ beyond ∷ [] → length first ≡ 16777216 → EndWithinLimit bytes lines → BeginsWith first lines
+held_begins bytes taken left first beyond lines e is long (inl h) =
+    let whole : h.0 ++ h.1 ≡ first ++ (beyond ∷ left) = sym h.3 ∙ (e ∙ (ap (λ (l : List ℕ). l ++ left) is ∙ append_assoc first (beyond ∷ []) left)) in
+    let p = within_first h.0 h.1 first (beyond ∷ left) whole (omega (arith, h.4, long)) in
+    record { front = h.0; beyond = p.0; ended = h.2; whole = p.1 }
+held_begins bytes taken left first beyond lines e is long (inr h) = absurd (too_few bytes taken left first beyond e h.1 is long)
+
+tells_part : (c : Course) (later lines : List (List ℕ)) (state : c.State) → Tells c (later ++ lines) state → (part : c.State) × Tells c lines part
+tells_part c [] lines state h = (state, h)
+tells_part c (line ∷ later) lines state h = tells_part c later lines h.0 h.1
+
+module _ (c : Course) (no_fault : (lines : List (List ℕ)) (line : List ℕ) (state whole : c.State) (fault : ℕ) → Tells c lines state → Tells c (line ∷ lines) whole → c.HasFault state line fault → ⊥) (text : Text c.State) (taken left bytes : List ℕ) (journal : List JournalEntry) (start written : Option (List ℕ)) (e : bytes ≡ taken ++ left) where
+  none_before : (all later lines : List (List ℕ)) (line : List ℕ) (whole state : c.State) (fault : ℕ) → all ≡ later ++ (line ∷ lines) → Tells c all whole → Tells c lines state → c.HasFault state line fault → ⊥
+  none_before all later lines line whole state fault is tells before has =
+      let p = tells_part c later (line ∷ lines) whole (subst (λ (l : List (List ℕ)). Tells c l whole) is tells) in
+      no_fault lines line state p.0 fault before p.1 has
+
+  faultless : (end : End) → HasEnded c text end taken (Some left) journal start written → IsFaultless c bytes → end ≢ ends.Read → end ≢ ends.Write → (status_of end ≡ 0) ⊎ (status_of end ≡ 5)
+  faultless ends.Whole h known read write = inl refl
+  faultless ends.Memory h known read write = inr refl
+  faultless ends.Read h known read write = absurd (read refl)
+  faultless ends.Write h known read write = absurd (write refl)
+  faultless ends.Usage h known read write = absurd h.3
+  faultless (ends.Fault fault number) h known read write =
+      let all = known.2 in
+      let f = h.3 in
+      let first = first_lines taken (Some left) (f.0 ∷ h.0) f.1 in
+      let p = first_of_all taken left (f.0 ∷ h.0) all.ended all.rest first (subst (λ (l : List ℕ). IsCut l all.ended all.rest) e all.cut) in
+      absurd (none_before known.1 p.0 h.0 f.0 known.3 h.1 fault (all.last ∙ p.1) known.4 h.2.tells f.2)
+  faultless ends.Size h known read write =
+      let f = h.3 in
+      absurd (too_few bytes taken left f.0 f.2 e known.0 f.3 f.4)
+
+  faulty : (end : End) → HasEnded c text end taken (Some left) journal start written → IsFaulty c bytes → end ≢ ends.Read → end ≢ ends.Write → (status_of end ≡ 1) ⊎ (status_of end ≡ 5)
+  faulty (ends.Fault fault number) h known read write = inl refl
+  faulty ends.Memory h known read write = inr refl
+  faulty ends.Read h known read write = absurd (read refl)
+  faulty ends.Write h known read write = absurd (write refl)
+  faulty ends.Usage h known read write = absurd h.3
+  faulty ends.Whole h known read write =
+      let all = h.3.0 in
+      let same : taken ≡ bytes ++ [] = sym (append-nil taken) ∙ (ap (λ (l : List ℕ). taken ++ l) (sym all.source) ∙ (sym e ∙ sym (append-nil bytes))) in
+      let first = held_lines bytes (known.0 ∷ known.1) known.2 in
+      let p = first_of_all bytes [] (known.0 ∷ known.1) all.ended all.rest first (subst (λ (l : List ℕ). IsCut l all.ended all.rest) same all.cut) in
+      absurd (none_before h.0 p.0 known.1 known.0 h.1 known.3 known.5 (all.last ∙ p.1) h.2.tells known.4 known.6)
+  faulty ends.Size h known read write =
+      let f = h.3 in
+      let first = held_begins bytes taken left f.0 f.2 (known.0 ∷ known.1) e f.3 f.4 known.2 in
+      let p = begins_first f.0 (known.0 ∷ known.1) h.0 f.1 first f.5 in
+      absurd (none_before h.0 p.0 known.1 known.0 h.1 known.3 known.5 p.1 h.2.tells known.4 known.6)
+
+  too_large : (end : End) → HasEnded c text end taken (Some left) journal start written → IsTooLarge c bytes → end ≢ ends.Read → end ≢ ends.Write → (status_of end ≡ 7) ⊎ (status_of end ≡ 5)
+  too_large ends.Size h known read write = inl refl
+  too_large ends.Memory h known read write = inr refl
+  too_large ends.Read h known read write = absurd (read refl)
+  too_large ends.Write h known read write = absurd (write refl)
+  too_large ends.Usage h known read write = absurd h.3
+  too_large ends.Whole h known read write =
+      absurd (too_many bytes taken left known.0 known.1 e known.3 h.3.1 h.3.0.source known.4 known.5)
+  too_large (ends.Fault fault number) h known read write =
+      let f = h.3 in
+      let first = first_begins bytes taken left known.0 known.1 (f.0 ∷ h.0) e known.3 f.4 known.4 known.5 (first_lines taken (Some left) (f.0 ∷ h.0) f.1) in
+      let p = begins_first known.0 (f.0 ∷ h.0) known.6 known.2 first known.7 in
+      absurd (none_before known.6 p.0 h.0 f.0 known.8 h.1 fault p.1 known.9 h.2.tells f.2)
+
+  given : (end : End) (status : ℕ) → HasEnded c text end taken (Some left) journal start written → LinesGive c (Some bytes) status → end ≢ ends.Read → end ≢ ends.Write → (status_of end ≡ status) ⊎ (status_of end ≡ 5)
+  given end status h (inl k) read write = rw k.0 (faultless end h k.1 read write)
+  given end status h (inr (inl k)) read write = rw k.0 (faulty end h k.1 read write)
+  given end status h (inr (inr k)) read write = rw k.0 (too_large end h k.1 read write)
+
+-- where no call failed, the status is the one that the bytes held give
+pub exact_lines : (c : Course) → ((lines : List (List ℕ)) (line : List ℕ) (state whole : c.State) (fault : ℕ) → Tells c lines state → Tells c (line ∷ lines) whole → c.HasFault state line fault → ⊥) → (text : Text c.State) (taken : List ℕ) (held left : Option (List ℕ)) (journal : List JournalEntry) (start written : Option (List ℕ)) (end : End) (status : ℕ) → held ≡ prepend_known taken left → HasEnded c text end taken left journal start written → LinesGive c held status → end ≢ ends.Read → end ≢ ends.Write → (status_of end ≡ status) ⊎ (status_of end ≡ 5)
+exact_lines c no_fault text taken None left journal start written end status told h gives read write = absurd gives
+exact_lines c no_fault text taken (Some bytes) None journal start written end status told h gives read write = cc
+exact_lines c no_fault text taken (Some bytes) (Some left) journal start written end status told h gives read write =
     let e : bytes ≡ taken ++ left = cc in
-    absurd (too_many bytes taken left large.0 large.1 e large.3 h.2.1 h.2.0.source large.4 large.5)
-finds_size (ends.Fault fault number) (Some bytes) (Some left) report taken journal written told large h read write =
-    let e : bytes ≡ taken ++ left = cc in
-    let f = h.2 in
-    let first = first_begins bytes taken left large.0 large.1 (f.0 ∷ h.0) e large.3 f.4 large.4 large.5 f.1 in
-    let p = begins_first large.0 (f.0 ∷ h.0) large.6 large.2 first large.7 in
-    absurd (no_fault large.6 p.0 h.0 f.0 large.8 h.1 fault p.1 large.9 h.3.tells f.2)
+    given c no_fault text taken left bytes journal start written e end status h gives read write

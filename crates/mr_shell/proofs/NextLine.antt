@@ -8,7 +8,9 @@ use Rattle.journal.specs.declared.events.Event.{Event}
 use Rattle.journal.specs.declared.events.Event.TheVariants as events
 use Rattle.scenario.specs.declared.lines.Line.{Line}
 use Rattle.scenario.specs.declared.lines.Line.TheVariants as lines
-use Rattle.mr_shell.specs.Story.{Story, Tells, run_with}
+use Rattle.mr_shell.specs.Story.{Story, run_with}
+use Rattle.mr_shell.specs.Course.{Tells}
+use Rattle.mr_shell.specs.RunEnded.{run_course}
 use Rattle.mr_shell.proofs.RunLemmas.{names_stay}
 
 -- the events so far have lower numbers, and their transactions have names
@@ -51,15 +53,15 @@ step (lines.Sql sql) n seen text seen' run read know =
     let m = names_stay seen text (lines.Sql sql) seen' read in
     knows_more n (n + 1) seen.names seen'.names run.events (omega arith) (omega (arith, ap (λ (names : List (List ℕ)). length names) m.1, length-append seen.names m.0)) know
 
-knows : (before : List (List ℕ)) (story : Story) → Tells before story → Knows (length before + 1) story.seen.names story.run.events
+knows : (before : List (List ℕ)) (story : Story) → Tells run_course before story → Knows (length before + 1) story.seen.names story.run.events
 knows [] story tells = subst (λ (s : Story). Knows 1 s.seen.names s.run.events) (sym tells) (knows_nothing 1 [])
 knows (text ∷ before) story tells =
     let earlier = tells.0 in
-    let later = step tells.2 (length before + 1) earlier.seen text story.seen earlier.run tells.3 (knows before earlier tells.1) in
+    let later = step tells.2.0 (length before + 1) earlier.seen text story.seen earlier.run tells.2.1 (knows before earlier tells.1) in
     let same : length before + 1 + 1 ≡ length (text ∷ before) + 1 = ap (λ (n : ℕ). n + 1) (add-one (length before)) in
-    subst (λ (n : ℕ). Knows n story.seen.names story.run.events) same (subst (λ (r : LinesRun). Knows (length before + 1 + 1) story.seen.names r.events) (sym tells.4) later)
+    subst (λ (n : ℕ). Knows n story.seen.names story.run.events) same (subst (λ (r : LinesRun). Knows (length before + 1 + 1) story.seen.names r.events) (sym tells.2.2) later)
 
-pub is_next_line : (before : List (List ℕ)) (story : Story) (text : List ℕ) (e : Event) (seen : Seen) → Tells before story → Reads story.seen text (lines.Event e) seen → IsNextLine story.run (length before + 1) e
+pub is_next_line : (before : List (List ℕ)) (story : Story) (text : List ℕ) (e : Event) (seen : Seen) → Tells run_course before story → Reads story.seen text (lines.Event e) seen → IsNextLine story.run (length before + 1) e
 is_next_line before story text events.Begin seen tells read = ((knows before story tells).before, tt)
 is_next_line before story text (events.Txn t g k list) seen tells read =
     let at : length story.seen.names ≤ t.0 = omega (arith, ap (λ (x : TxnId). x.0) read.1) in

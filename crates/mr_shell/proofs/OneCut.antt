@@ -4,8 +4,8 @@ use Rattle.std.specs.Prelude.{All}
 use Rattle.std.proofs.Math.Dec.{eqb}
 use Rattle.std.proofs.lemmas.Bool.{ne_eqb}
 use Rattle.std.proofs.lemmas.List.Elements.{All-head, All-tail}
-use Rattle.mr_shell.specs.Content.{AreFirstLines, AreLines, BeginsWith, IsContent, IsCut, IsWithinLine, with_last}
-use Rattle.mr_shell.proofs.ContentLemmas.{begins_more}
+use Rattle.mr_shell.specs.Content.{AreLines, IsContent, IsCut, IsWithinLine, with_last}
+use Rattle.mr_shell.proofs.ContentLemmas.{AreFirstLines, BeginsWith, begins_more}
 
 -- what stands before a line feed, without one carriage return at its end
 abbrev content_of : List ℕ → List ℕ

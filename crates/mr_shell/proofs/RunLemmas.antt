@@ -1,12 +1,11 @@
 -- What a run has written, as its lines are read and its entries made.
-use Rattle.std.proofs.Common.{◌≡◌, ℕ, ◌+◌, ◌<◌, ◌≤◌, List, [], ◌∷◌, ◌++◌, Option, refl, ap, sym, ◌∙◌, append_assoc, append-nil, inl, inr, subst, length, length-append, take, drop, arith}
+use Rattle.std.proofs.Common.{◌≡◌, ℕ, ◌+◌, ◌<◌, ◌≤◌, List, [], ◌∷◌, ◌++◌, Option, refl, ap, sym, ◌∙◌, append_assoc, append-nil, inl, inr, subst, length, length-append, drop, arith}
 use Rattle.std.specs.Prelude.{reverse}
 use Rattle.std.specs.List.{flat_map}
 use Rattle.std.proofs.lemmas.List.{reverse-append, reverse-reverse}
 use Rattle.std.proofs.Math.Seq.{drop-append_seam}
 use Rattle.std.specs.Io.KnownBytes.{append_known}
 use Rattle.mr_base.specs.declared.ids.TxnId.{TxnId}
-use Rattle.mr_io.proofs.Told.{append_known-append, append_known-nil}
 use Rattle.journal_text.specs.EntryText.{entry_text}
 use Rattle.scenario.specs.FirstPath.{Reads}
 use Rattle.journal.specs.Names.{NamesOnly}
@@ -22,18 +21,14 @@ use Rattle.journal.proofs.NamesOnly.{NamesOnly-append, NamesOnly-reverse, NamesO
 use Rattle.one_node.specs.Cluster.{GoesOn, IsOf, IsRunOf}
 use Rattle.one_node.specs.View.{View}
 use Rattle.mr_base.specs.declared.settings.Settings.{Settings}
-use Rattle.mr_shell.specs.Run.{RunsLine, ShowsAll, ShowsEntries, ShowsPart}
+use Rattle.mr_shell.specs.Course.{RunsLine, Tells}
+use Rattle.mr_shell.specs.LinesEnded.{ShowsAll, ShowsEntries, ShowsPart}
+use Rattle.mr_shell.specs.RunEnded.{run_course, run_shown}
 use Rattle.mr_shell.specs.Session.{Follows}
 use Rattle.one_node_laws.specs.LinesRun.{with_line}
-use Rattle.mr_shell.specs.Story.{Story, Tells, run_with}
-use Rattle.mr_shell.specs.Texts.{Report, texts, journal_text, Wrote}
-
--- what was written in two pieces
-pub wrote-more : (start mid written : Option (List ℕ)) (xs ys : List ℕ) → Wrote start mid xs → Wrote mid written ys → Wrote start written (xs ++ ys)
-wrote-more start mid written xs ys h k = k ∙ (ap (λ (o : Option (List ℕ)). append_known o ys) h ∙ append_known-append start xs ys)
-
-pub wrote-same : (start written : Option (List ℕ)) → Wrote start written [] → written ≡ start
-wrote-same start written h = h ∙ sym (append_known-nil start)
+use Rattle.mr_shell.specs.Story.{Story, run_with}
+use Rattle.mr_shell.specs.Texts.{Report, texts, journal_text, Wrote, WrotePart}
+use Rattle.mr_shell.proofs.Written.{part_behind, wrote-more}
 
 flat_map-append : (f : JournalEntry → List ℕ) (xs ys : List JournalEntry) → flat_map f (xs ++ ys) ≡ flat_map f xs ++ flat_map f ys
 flat_map-append f [] ys = refl
@@ -76,6 +71,12 @@ named seen text _ seen' h t is = absurd is
 within_more : (names more : List (List ℕ)) (t : TxnId) → t.0 < length names → t.0 < length (names ++ more)
 within_more names more t h = omega (arith, h, length-append names more)
 
+-- the names of a further line leave what a report shows
+same_text : (story : Story) (settings : Settings) (cluster : View) (report : Report) (written : Option (List ℕ)) (text : List ℕ) (line : Line) (seen : Seen) → Reads story.seen text line seen → Follows story settings cluster report written → journal_text report.mode seen.names cluster.journal ≡ journal_text report.mode story.seen.names cluster.journal
+same_text story settings cluster report written text line seen read f =
+    let n = names_stay story.seen text line seen read in
+    ap (λ (names : List (List ℕ)). journal_text report.mode names cluster.journal) n.1 ∙ journal_text-more report.mode story.seen.names n.0 cluster.journal f.names
+
 -- a line that makes no entry
 pub follows_names : (story : Story) (settings : Settings) (cluster : View) (report : Report) (written : Option (List ℕ)) (text : List ℕ) (line : Line) (seen : Seen) → Reads story.seen text line seen → Follows story settings cluster report written → Follows (record { seen = seen; run = story.run }) settings cluster report written
 follows_names story settings cluster report written text line seen read f =
@@ -84,7 +85,7 @@ follows_names story settings cluster report written text line seen read f =
       made = f.made;
       run = f.run;
       names = subst (λ (names : List (List ℕ)). NamesOnly (λ t. t.0 < length names) cluster.journal) (sym n.1) (NamesOnly-weaker (λ t. t.0 < length story.seen.names) (λ t. t.0 < length (story.seen.names ++ n.0)) (within_more story.seen.names n.0) cluster.journal f.names);
-      text = f.text ∙ ap (append_known report.start) (sym (ap (λ (names : List (List ℕ)). journal_text report.mode names cluster.journal) n.1 ∙ journal_text-more report.mode story.seen.names n.0 cluster.journal f.names));
+      text = f.text ∙ ap (append_known report.start) (sym (same_text story settings cluster report written text line seen read f));
     }
 
 -- a line's entries behind the text of those that were there
@@ -117,22 +118,19 @@ fewer_entries was is old new e h k goes =
     omega (arith, ap (λ (l : List JournalEntry). length l) all, length-append was (reverse goes.fresh))
 
 -- a line, its story and the journal that it made
-pub runs_line : (text : List ℕ) (before : List (List ℕ)) (earlier story : Story) (old new : View) (line : Line) → IsRunOf earlier.run old → IsRunOf story.run new → Tells before earlier → Reads earlier.seen text line story.seen → story.run ≡ run_with earlier.run (length before + 1) line → RunsLine text before old.journal story new.journal
+pub runs_line : (text : List ℕ) (before : List (List ℕ)) (earlier story : Story) (old new : View) (line : Line) → IsRunOf earlier.run old → IsRunOf story.run new → Tells run_course before earlier → Reads earlier.seen text line story.seen → story.run ≡ run_with earlier.run (length before + 1) line → RunsLine run_course text before earlier old.journal story new.journal
 runs_line text before earlier story old new line was ran tells read run =
-    record {
-      earlier = earlier;
-      without_line = record { tells = tells; cluster = old; run = was; entries = refl };
-      with_line = record { tells = (earlier, tells, line, read, run); cluster = new; run = ran; entries = refl };
-    }
+    record { were = record { tells = tells; made = was.run }; step = (line, read, run); made = ran.run }
 
 -- writing stopped between two entries
-pub shows_entries : (text : List ℕ) (before : List (List ℕ)) (earlier story : Story) (settings : Settings) (old new : View) (report : Report) (mid written : Option (List ℕ)) (e : Event) (shown unshown : List JournalEntry) → IsRunOf story.run new → Tells before earlier → Reads earlier.seen text (lines.Event e) story.seen → story.run ≡ run_with earlier.run (length before + 1) (lines.Event e) → Follows earlier settings old report mid → (goes : GoesOn old e new) → reverse goes.fresh ≡ shown ++ unshown → Wrote mid written (texts report.mode story.seen.names shown) → ShowsEntries text before report new.journal written
+pub shows_entries : (text : List ℕ) (before : List (List ℕ)) (earlier story : Story) (settings : Settings) (old new : View) (report : Report) (mid written : Option (List ℕ)) (e : Event) (shown unshown : List JournalEntry) → IsRunOf story.run new → Tells run_course before earlier → Reads earlier.seen text (lines.Event e) story.seen → story.run ≡ run_with earlier.run (length before + 1) (lines.Event e) → Follows earlier settings old report mid → (goes : GoesOn old e new) → reverse goes.fresh ≡ shown ++ unshown → Wrote mid written (texts report.mode story.seen.names shown) → ShowsEntries run_course (run_shown report.mode) text before new.journal report.start written
 shows_entries text before earlier story settings old new report mid written e shown unshown ran tells read run f goes split w =
     let fresh : goes.fresh ≡ reverse unshown ++ reverse shown = sym (reverse-reverse goes.fresh) ∙ ap (λ (l : List JournalEntry). reverse l) split ∙ reverse-append shown unshown in (
+      earlier,
+      story,
       old.journal,
       reverse shown,
       reverse unshown,
-      story,
       runs_line text before earlier story old new (lines.Event e) f.run ran tells read run,
       goes.journal ∙ ap (λ (l : List JournalEntry). l ++ old.journal) fresh ∙ append_assoc (reverse unshown) (reverse shown) old.journal,
       wrote_entries earlier settings old report mid written text (lines.Event e) story.seen (texts report.mode story.seen.names shown) read f w
@@ -140,17 +138,19 @@ shows_entries text before earlier story settings old new report mid written e sh
     )
 
 -- a write failed among a line's entries
-pub shows_part : (text : List ℕ) (before : List (List ℕ)) (earlier story : Story) (settings : Settings) (old new : View) (report : Report) (mid written : Option (List ℕ)) (e : Event) (count : ℕ) → IsRunOf story.run new → Tells before earlier → Reads earlier.seen text (lines.Event e) story.seen → story.run ≡ run_with earlier.run (length before + 1) (lines.Event e) → Follows earlier settings old report mid → (goes : GoesOn old e new) → Wrote mid written (take count (journal_text report.mode story.seen.names goes.fresh)) → ShowsPart text before report new.journal written
-shows_part text before earlier story settings old new report mid written e count ran tells read run f goes w = (
+pub shows_part : (text : List ℕ) (before : List (List ℕ)) (earlier story : Story) (settings : Settings) (old new : View) (report : Report) (mid written : Option (List ℕ)) (e : Event) → IsRunOf story.run new → Tells run_course before earlier → Reads earlier.seen text (lines.Event e) story.seen → story.run ≡ run_with earlier.run (length before + 1) (lines.Event e) → Follows earlier settings old report mid → (goes : GoesOn old e new) → WrotePart mid written [] (journal_text report.mode story.seen.names goes.fresh) → ShowsPart run_course (run_shown report.mode) text before new.journal report.start written
+shows_part text before earlier story settings old new report mid written e ran tells read run f goes w = (
+  earlier,
+  story,
   old.journal,
   goes.fresh,
-  count,
-  story,
   runs_line text before earlier story old new (lines.Event e) f.run ran tells read run,
   goes.journal,
-  wrote_entries earlier settings old report mid written text (lines.Event e) story.seen (take count (journal_text report.mode story.seen.names goes.fresh)) read f w,
+  journal_text report.mode story.seen.names goes.fresh,
+  ap (journal_text report.mode story.seen.names) goes.journal ∙ (journal_text-append report.mode story.seen.names goes.fresh old.journal ∙ ap (λ (l : List ℕ). l ++ journal_text report.mode story.seen.names goes.fresh) (same_text earlier settings old report mid text (lines.Event e) story.seen read f)),
+  part_behind report.start mid written (journal_text report.mode earlier.seen.names old.journal) (journal_text report.mode story.seen.names goes.fresh) f.text w,
 )
 
 -- nothing of a line was run
-pub shows_all : (before : List (List ℕ)) (story : Story) (settings : Settings) (cluster : View) (report : Report) (written : Option (List ℕ)) → Tells before story → Follows story settings cluster report written → ShowsAll before report cluster.journal written
-shows_all before story settings cluster report written tells f = (story, record { tells = tells; cluster = cluster; run = f.run; entries = refl }, f.text)
+pub shows_all : (before : List (List ℕ)) (story : Story) (settings : Settings) (cluster : View) (report : Report) (written : Option (List ℕ)) → Tells run_course before story → Follows story settings cluster report written → ShowsAll run_course (run_shown report.mode) before cluster.journal report.start written
+shows_all before story settings cluster report written tells f = (story, record { tells = tells; made = f.run.run }, f.text)

@@ -1,5 +1,5 @@
 -- A session, as its lines are read and run.
-use Rattle.std.proofs.Common.{◌≡◌, ℕ, ◌+◌, ◌<◌, List, [], ◌∷◌, Option, refl, ap, sym, ◌∙◌, subst, inl, inr, length, take, drop, add-one}
+use Rattle.std.proofs.Common.{◌≡◌, ℕ, ◌+◌, ◌<◌, List, [], ◌∷◌, Option, refl, ap, sym, ◌∙◌, subst, inl, inr, length, drop, add-one}
 use Rattle.std.specs.Prelude.{◌⊎◌, reverse}
 use Rattle.std.specs.Io.KnownBytes.{append_known}
 use Rattle.mr_base.specs.declared.byte_string.Bytes.{Bytes}
@@ -12,11 +12,11 @@ use Rattle.scenario.specs.declared.lines.Line.TheVariants as lines
 use Rattle.journal_text.specs.declared.modes.Mode.{Mode}
 use Rattle.one_node.specs.Cluster.{GoesOn, IsRunOf}
 use Rattle.one_node.specs.View.{View}
-use Rattle.mr_shell.specs.Run.{report_of}
+use Rattle.mr_shell.specs.RunEnded.{run_shown}
 use Rattle.mr_shell.specs.Session.{HasRead, HasRun, StopsAt}
 use Rattle.one_node_laws.specs.LinesRun.{IsNextLine, LinesRun, with_line}
 use Rattle.mr_shell.specs.Story.{run_with}
-use Rattle.mr_shell.specs.Texts.{Report, ShowsSome, Wrote, journal_text, texts}
+use Rattle.mr_shell.specs.Texts.{Report, ShowsSome, Wrote, WrotePart, journal_text, texts}
 use Rattle.mr_shell.specs.declared.outcome.End.{End}
 use Rattle.mr_shell.specs.declared.outcome.End.TheVariants as ends
 use Rattle.mr_shell.specs.declared.session.Session.{Session}
@@ -28,7 +28,7 @@ pub has_run_quiet : (line : Line) (text : List ℕ) (before : List (List ℕ)) (
 has_run_quiet line text before report written session (inl e) h =
     record {
       story = record { seen = session.scenario; run = h.story.run };
-      tells = (h.story, h.tells, line, h.read, sym (ap (run_with h.story.run (length before + 1)) e));
+      tells = (h.story, h.tells, (line, h.read, sym (ap (run_with h.story.run (length before + 1)) e)));
       seen = refl;
       shown = h.shown;
       number = h.number ∙ add-one (length before);
@@ -37,7 +37,7 @@ has_run_quiet line text before report written session (inl e) h =
 has_run_quiet line text before report written session (inr e) h =
     record {
       story = record { seen = session.scenario; run = h.story.run };
-      tells = (h.story, h.tells, line, h.read, sym (ap (run_with h.story.run (length before + 1)) e.1));
+      tells = (h.story, h.tells, (line, h.read, sym (ap (run_with h.story.run (length before + 1)) e.1)));
       seen = refl;
       shown = h.shown;
       number = h.number ∙ add-one (length before);
@@ -49,7 +49,7 @@ pub has_run_anew : (line : Line) (text : List ℕ) (before : List (List ℕ)) (r
 has_run_anew line text before report written session settings cluster run h e made ran none still =
     record {
       story = record { seen = session.scenario; run = run };
-      tells = (h.story, h.tells, line, h.read, e);
+      tells = (h.story, h.tells, (line, h.read, e));
       seen = refl;
       shown = h.shown;
       number = h.number ∙ add-one (length before);
@@ -57,7 +57,7 @@ has_run_anew line text before report written session settings cluster run h e ma
         made = made;
         run = ran;
         names = subst (NamesOnly (λ t. t.0 < length session.scenario.names)) (sym still) tt;
-        text = h.follows.text ∙ ap (append_known report.start) (ap (report_of report.mode h.story) none ∙ sym (ap (journal_text report.mode session.scenario.names) still));
+        text = h.follows.text ∙ ap (append_known report.start) (ap (run_shown report.mode h.story) none ∙ sym (ap (journal_text report.mode session.scenario.names) still));
       };
     }
 
@@ -73,7 +73,7 @@ has_run_event text before report mid written session cluster e was is names entr
     subst (λ (m : Mode). Wrote mid written (texts m names entries)) h.shown w ∙ (ap (λ (ns : List (List ℕ)). append_known mid (texts report.mode ns entries)) same ∙ ap (λ (es : List JournalEntry). append_known mid (texts report.mode session.scenario.names es)) (after ∙ fresh_entries was is session.cluster cluster e then now goes)) in
     record {
       story = record { seen = session.scenario; run = run_with h.story.run (length before + 1) (lines.Event e) };
-      tells = (h.story, h.tells, lines.Event e, h.read, refl);
+      tells = (h.story, h.tells, (lines.Event e, h.read, refl));
       seen = refl;
       shown = h.shown;
       number = h.number ∙ add-one (length before);
@@ -86,8 +86,9 @@ stops_at_event ends.Memory text before report mid written session cluster e was 
     let v = subst (λ (m : Mode). ShowsSome ends.Memory m names entries mid written) h.shown w in
     inr (shows_entries text before h.story (record { seen = session.scenario; run = run_with h.story.run (length before + 1) (lines.Event e) }) session.settings session.cluster cluster report mid written e v.0 v.1 (has_run_next text before report mid session cluster e law h) h.tells h.read refl h.follows goes (sym (after ∙ fresh_entries was is session.cluster cluster e then now goes) ∙ v.2) (v.3 ∙ ap (λ (ns : List (List ℕ)). append_known mid (texts report.mode ns v.0)) same))
 stops_at_event ends.Write text before report mid written session cluster e was is names entries law then now same after goes w h =
-    let v = subst (λ (m : Mode). ShowsSome ends.Write m names entries mid written) h.shown w in
-    shows_part text before h.story (record { seen = session.scenario; run = run_with h.story.run (length before + 1) (lines.Event e) }) session.settings session.cluster cluster report mid written e v.0 (has_run_next text before report mid session cluster e law h) h.tells h.read refl h.follows goes (v.1 ∙ (ap (λ (ns : List (List ℕ)). append_known mid (take v.0 (texts report.mode ns entries))) same ∙ ap (λ (es : List JournalEntry). append_known mid (take v.0 (texts report.mode session.scenario.names es))) (after ∙ fresh_entries was is session.cluster cluster e then now goes)))
+    let shown : texts session.mode names entries ≡ journal_text report.mode session.scenario.names goes.fresh =
+    ap (λ (m : Mode). texts m names entries) h.shown ∙ (ap (λ (ns : List (List ℕ)). texts report.mode ns entries) same ∙ ap (texts report.mode session.scenario.names) (after ∙ fresh_entries was is session.cluster cluster e then now goes)) in
+    shows_part text before h.story (record { seen = session.scenario; run = run_with h.story.run (length before + 1) (lines.Event e) }) session.settings session.cluster cluster report mid written e (has_run_next text before report mid session cluster e law h) h.tells h.read refl h.follows goes (subst (WrotePart mid written []) shown w)
 stops_at_event ends.Whole text before report mid written session cluster e was is names entries law then now same after goes w h = absurd w
 stops_at_event ends.Usage text before report mid written session cluster e was is names entries law then now same after goes w h = absurd w
 stops_at_event ends.Read text before report mid written session cluster e was is names entries law then now same after goes w h = absurd w

@@ -1,49 +1,79 @@
 -- Why a run ends, as what was taken grows.
-use Rattle.std.proofs.Common.{◌≡◌, ◌≢◌, ℕ, ◌+◌, List, [], ◌∷◌, ◌++◌, Option, refl, ap, sym, ◌∙◌, append_assoc, inl, inr, subst, take, drop, length, get_or, ◌<◌, take-append-drop, take-suc, add-one, false}
+use Rattle.std.proofs.Common.{◌≡◌, ◌≢◌, ℕ, ◌+◌, List, [], ◌∷◌, ◌++◌, Option, refl, ap, sym, ◌∙◌, append_assoc, append-nil, arith, inl, inr, subst, take, drop, length, length-append, length-drop, get_or, ◌<◌, ◌≤◌, take-append-drop, take-suc, add-one, false}
 use Rattle.std.specs.Prelude.{◌==◌, IfErr, Result, Ok, Err}
 use Rattle.std.proofs.lemmas.List.{drop_more}
 use Rattle.std.specs.Io.KnownBytes.{prepend_known, IsAtEnd}
 use Rattle.mr_io.proofs.Told.{prepend_known-nil, prepend_known-prepend}
-use Rattle.mr_shell.specs.Content.{AreFirstLines, BeginsWith, IsCut, IsContent, with_last}
+use Rattle.mr_shell.specs.Content.{AreLines, AreTakenBefore, AreTakenFor, EndWithPiece, IsContent, IsCut, IsWithinLimit, StopWithPiece, with_last}
 use Rattle.mr_shell.specs.Ends.{EndsLines}
 use Rattle.mr_shell.specs.Pieces.{HasTaken, Stops, StopsInside, StopsWithin}
-use Rattle.mr_shell.specs.Run.{IsWithinLimit}
 use Rattle.mr_shell.specs.declared.outcome.End.{End}
 use Rattle.mr_shell.specs.declared.outcome.End.TheVariants as ends
-use Rattle.mr_shell.proofs.ContentLemmas.{all_with_last, begins, begins_more, begins_whole, cut_ended, lines_more}
+use Rattle.mr_shell.proofs.ContentLemmas.{all_with_last, cut_ended, cut_more, lines_more}
 
 -- a line's end was taken, and the line was run
 pub taken_line : {R : Type 0} (HasRun : List (List ℕ) → R → Option (List ℕ) → Type 0) (taken : List ℕ) (lines : List (List ℕ)) (b : ℕ) (raw pending line after : List ℕ) (runner : R) (written : Option (List ℕ)) → b ≡ 10 → raw ≡ pending → after ≡ [] → IsContent raw line → IsCut taken lines pending → HasRun (line ∷ lines) runner written → HasTaken HasRun (taken ++ b ∷ []) runner after written
 taken_line HasRun taken lines b raw pending line after runner written is same none content cut run =
     rw (is, none) record { lines = line ∷ lines; cut = cut_ended (taken ++ 10 ∷ []) (line ∷ lines) (lines_more taken lines pending line (subst (λ (l : List ℕ). IsContent l line) same content) cut); run = run }
 
--- memory ran out between two lines
-pub within_short : {R : Type 0} (HasRun : List (List ℕ) → R → Option (List ℕ) → Type 0) (StopsAt : End → List ℕ → List (List ℕ) → R → Option (List ℕ) → Type 0) (taken : List ℕ) (runner : R) (pending : List ℕ) (written : Option (List ℕ)) (b : ℕ) → HasTaken HasRun taken runner pending written → StopsWithin HasRun StopsAt ends.Memory (taken ++ b ∷ []) runner written
-within_short HasRun StopsAt taken runner pending written b h = inr (refl, h.lines, begins_more taken (b ∷ []) h.lines (begins taken h.lines pending h.cut), h.run)
+-- memory ran out within a line
+pub within_short : {R : Type 0} (HasRun : List (List ℕ) → R → Option (List ℕ) → Type 0) (StopsAt : End → List ℕ → List (List ℕ) → R → Option (List ℕ) → Type 0) (taken : List ℕ) (runner : R) (pending : List ℕ) (written : Option (List ℕ)) (b : ℕ) → b ≢ 10 → HasTaken HasRun taken runner pending written → StopsWithin HasRun StopsAt ends.Memory (taken ++ b ∷ []) 1 runner written
+within_short HasRun StopsAt taken runner pending written b other h =
+    record {
+      front = taken ++ b ∷ [];
+      ahead = [];
+      whole = sym (append-nil (taken ++ b ∷ []));
+      piece = omega arith;
+      stops = inr (refl, h.lines, pending ++ b ∷ [], cut_more taken h.lines pending b other h.cut, h.run);
+    }
 
 -- a line whose end was taken ended the run
-pub within_line : {R : Type 0} (HasRun : List (List ℕ) → R → Option (List ℕ) → Type 0) (StopsAt : End → List ℕ → List (List ℕ) → R → Option (List ℕ) → Type 0) (end : End) (taken : List ℕ) (lines : List (List ℕ)) (b : ℕ) (raw pending line : List ℕ) (runner : R) (written : Option (List ℕ)) → b ≡ 10 → raw ≡ pending → IsContent raw line → IsCut taken lines pending → StopsAt end line lines runner written → StopsWithin HasRun StopsAt end (taken ++ b ∷ []) runner written
+pub within_line : {R : Type 0} (HasRun : List (List ℕ) → R → Option (List ℕ) → Type 0) (StopsAt : End → List ℕ → List (List ℕ) → R → Option (List ℕ) → Type 0) (end : End) (taken : List ℕ) (lines : List (List ℕ)) (b : ℕ) (raw pending line : List ℕ) (runner : R) (written : Option (List ℕ)) → b ≡ 10 → raw ≡ pending → IsContent raw line → IsCut taken lines pending → StopsAt end line lines runner written → StopsWithin HasRun StopsAt end (taken ++ b ∷ []) 1 runner written
 within_line HasRun StopsAt end taken lines b raw pending line runner written is same content cut stops =
-    rw is (inl (line, lines, begins_whole (taken ++ 10 ∷ []) (line ∷ lines) (lines_more taken lines pending line (subst (λ (l : List ℕ). IsContent l line) same content) cut), stops))
+    rw is
+    (record {
+      front = taken ++ 10 ∷ [];
+      ahead = [];
+      whole = sym (append-nil (taken ++ 10 ∷ []));
+      piece = omega arith;
+      stops = inl (line, lines, lines_more taken lines pending line (subst (λ (l : List ℕ). IsContent l line) same content) cut, stops);
+    })
 
 -- more bytes were taken with those that were run
-pub within_more : {R : Type 0} (HasRun : List (List ℕ) → R → Option (List ℕ) → Type 0) (StopsAt : End → List ℕ → List (List ℕ) → R → Option (List ℕ) → Type 0) (end : End) (taken more : List ℕ) (runner : R) (written : Option (List ℕ)) → StopsWithin HasRun StopsAt end taken runner written → StopsWithin HasRun StopsAt end (taken ++ more) runner written
-within_more HasRun StopsAt end taken more runner written (inl h) = inl (h.0, h.1, begins_more taken more (h.0 ∷ h.1) h.2, h.3)
-within_more HasRun StopsAt end taken more runner written (inr h) = inr (h.0, h.1, begins_more taken more h.1 h.2, h.3)
+within_more : {R : Type 0} (HasRun : List (List ℕ) → R → Option (List ℕ) → Type 0) (StopsAt : End → List ℕ → List (List ℕ) → R → Option (List ℕ) → Type 0) (end : End) (taken more : List ℕ) (many all : ℕ) (runner : R) (written : Option (List ℕ)) → many + length more ≤ all → StopsWithin HasRun StopsAt end taken many runner written → StopsWithin HasRun StopsAt end (taken ++ more) all runner written
+within_more HasRun StopsAt end taken more many all runner written fits h =
+    record {
+      front = h.front;
+      ahead = h.ahead ++ more;
+      whole = ap (λ (l : List ℕ). l ++ more) h.whole ∙ append_assoc h.front h.ahead more;
+      piece = omega (arith, fits, h.piece, length-append h.ahead more);
+      stops = h.stops;
+    }
 
-shorter : (taken : List ℕ) (text : List ℕ) (lines : List (List ℕ)) → BeginsWith taken (text ∷ lines) → BeginsWith taken lines
+-- the lines before one whose end came with the last piece
+pub shorter : (taken : List ℕ) (text : List ℕ) (lines : List (List ℕ)) → EndWithPiece taken (text ∷ lines) → StopWithPiece taken lines
 shorter taken text lines h =
     let e = h.ended in
-    record { front = e.0; beyond = (e.1 ++ 10 ∷ []) ++ h.beyond; ended = e.2; whole = h.whole ∙ (ap (λ (l : List ℕ). l ++ h.beyond) e.5 ∙ append_assoc e.0 (e.1 ++ 10 ∷ []) h.beyond) }
+    record {
+      front = e.0 ++ e.1;
+      rest = e.1;
+      ahead = 10 ∷ h.ahead;
+      cut = record { front = e.0; ended = e.2; within = e.3; whole = refl };
+      whole = h.whole ∙ (ap (λ (l : List ℕ). l ++ h.ahead) e.5 ∙ (append_assoc e.0 (e.1 ++ 10 ∷ []) h.ahead ∙ (ap (λ (l : List ℕ). e.0 ++ l) (append_assoc e.1 (10 ∷ []) h.ahead) ∙ sym (append_assoc e.0 e.1 (10 ∷ h.ahead)))));
+      piece = omega (arith, h.piece);
+    }
 
-shorter_all : (taken : List ℕ) (text : List ℕ) (lines ended : List (List ℕ)) (rest : List ℕ) → text ∷ lines ≡ with_last rest ended → IsCut taken ended rest → BeginsWith taken lines
-shorter_all taken text lines ended [] e cut = shorter taken text lines (subst (BeginsWith taken) (sym e) (begins taken ended [] cut))
-shorter_all taken text lines ended (b ∷ bs) e cut = let same : ended ≡ lines = cc in subst (BeginsWith taken) same (begins taken ended (b ∷ bs) cut)
+shorter_all : (taken : List ℕ) (text : List ℕ) (lines ended : List (List ℕ)) (rest : List ℕ) → text ∷ lines ≡ with_last rest ended → IsCut taken ended rest → StopWithPiece taken lines
+shorter_all taken text lines ended [] e cut =
+    let whole = subst (λ (ls : List (List ℕ)). AreLines cut.front ls) (sym e) cut.ended in
+    shorter taken text lines (record { front = cut.front; ahead = []; ended = whole; whole = cut.whole; piece = omega arith })
+shorter_all taken text lines ended (b ∷ bs) e cut =
+    let same : ended ≡ lines = cc in
+    record { front = taken; rest = b ∷ bs; ahead = []; cut = subst (λ (ls : List (List ℕ)). IsCut taken ls (b ∷ bs)) same cut; whole = sym (append-nil taken); piece = omega arith }
 
--- the lines before one that bytes begin with
-pub first_shorter : (taken : List ℕ) (left : Option (List ℕ)) (text : List ℕ) (lines : List (List ℕ)) → AreFirstLines taken left (text ∷ lines) → AreFirstLines taken left lines
-first_shorter taken left text lines (inl h) = inl (shorter taken text lines h)
-first_shorter taken left text lines (inr h) = inl (shorter_all taken text lines h.ended h.rest h.last h.cut)
+pub taken_before : (taken : List ℕ) (left : Option (List ℕ)) (text : List ℕ) (lines : List (List ℕ)) → AreTakenFor taken left (text ∷ lines) → AreTakenBefore taken left lines
+taken_before taken left text lines (inl h) = inl (shorter taken text lines h)
+taken_before taken left text lines (inr h) = inl (shorter_all taken text lines h.ended h.rest h.last h.cut)
 
 -- a run that ends within its lines
 pub stops_inside : {R : Type 0} (HasRun : List (List ℕ) → R → Option (List ℕ) → Type 0) (StopsAt : End → List ℕ → List (List ℕ) → R → Option (List ℕ) → Type 0) (end : End) (taken : List ℕ) (left : Option (List ℕ)) (runner : R) (written : Option (List ℕ)) → EndsLines end → StopsInside HasRun StopsAt end taken left runner written → Stops HasRun StopsAt end taken left runner written
@@ -55,12 +85,11 @@ stops_inside HasRun StopsAt ends.Usage taken left runner written is h = absurd i
 stops_inside HasRun StopsAt ends.Read taken left runner written is h = absurd is
 stops_inside HasRun StopsAt ends.Size taken left runner written is h = absurd is
 
-inside : {R : Type 0} (HasRun : List (List ℕ) → R → Option (List ℕ) → Type 0) (StopsAt : End → List ℕ → List (List ℕ) → R → Option (List ℕ) → Type 0) (end : End) (taken : List ℕ) (left : Option (List ℕ)) (runner : R) (written : Option (List ℕ)) → IsWithinLimit taken → StopsWithin HasRun StopsAt end taken runner written → StopsInside HasRun StopsAt end taken left runner written
-inside HasRun StopsAt end taken left runner written within (inl h) = (within, inl (h.0, h.1, inl h.2, h.3))
-inside HasRun StopsAt end taken left runner written within (inr h) = (within, inr (h.0, h.1, inl h.2, h.3))
-
-pub stops_within : {R : Type 0} (HasRun : List (List ℕ) → R → Option (List ℕ) → Type 0) (StopsAt : End → List ℕ → List (List ℕ) → R → Option (List ℕ) → Type 0) (end : End) (taken : List ℕ) (left : Option (List ℕ)) (runner : R) (written : Option (List ℕ)) → EndsLines end → IsWithinLimit taken → StopsWithin HasRun StopsAt end taken runner written → Stops HasRun StopsAt end taken left runner written
-stops_within HasRun StopsAt end taken left runner written is within h = stops_inside HasRun StopsAt end taken left runner written is (inside HasRun StopsAt end taken left runner written within h)
+pub stops_within : {R : Type 0} (HasRun : List (List ℕ) → R → Option (List ℕ) → Type 0) (StopsAt : End → List ℕ → List (List ℕ) → R → Option (List ℕ) → Type 0) (end : End) (taken : List ℕ) (left : Option (List ℕ)) (many : ℕ) (runner : R) (written : Option (List ℕ)) → EndsLines end → IsWithinLimit taken → many ≤ 65536 → StopsWithin HasRun StopsAt end taken many runner written → Stops HasRun StopsAt end taken left runner written
+stops_within HasRun StopsAt end taken left many runner written is within fits h =
+    let piece : StopsWithin HasRun StopsAt end taken 65536 runner written =
+    record { front = h.front; ahead = h.ahead; whole = h.whole; piece = omega (arith, fits, h.piece); stops = h.stops } in
+    stops_inside HasRun StopsAt end taken left runner written is (within, inl piece)
 
 -- the source has ended
 pub whole_with_last : {R : Type 0} (HasRun : List (List ℕ) → R → Option (List ℕ) → Type 0) (StopsAt : End → List ℕ → List (List ℕ) → R → Option (List ℕ) → Type 0) (taken : List ℕ) (lines : List (List ℕ)) (left : Option (List ℕ)) (runner : R) (pending : List ℕ) (written : Option (List ℕ)) → IsCut taken lines pending → IsAtEnd left → IsWithinLimit taken → pending ≢ [] → HasRun (pending ∷ lines) runner written → Stops HasRun StopsAt ends.Whole taken left runner written
@@ -69,7 +98,7 @@ whole_with_last HasRun StopsAt taken lines left runner pending written cut at_en
 
 pub stops_last : {R : Type 0} (HasRun : List (List ℕ) → R → Option (List ℕ) → Type 0) (StopsAt : End → List ℕ → List (List ℕ) → R → Option (List ℕ) → Type 0) (end : End) (taken : List ℕ) (lines : List (List ℕ)) (left : Option (List ℕ)) (pending : List ℕ) (runner : R) (written : Option (List ℕ)) → EndsLines end → IsCut taken lines pending → IsAtEnd left → IsWithinLimit taken → pending ≢ [] → StopsAt end pending lines runner written → Stops HasRun StopsAt end taken left runner written
 stops_last HasRun StopsAt end taken lines left pending runner written is cut at_end within some h =
-    stops_inside HasRun StopsAt end taken left runner written is (within, inl (pending, lines, inr (all_with_last taken left lines pending some cut at_end), h))
+    stops_inside HasRun StopsAt end taken left runner written is (within, inr (pending, lines, all_with_last taken left lines pending some cut at_end, h))
 
 -- bytes that some are
 pub not_empty : (xs : List ℕ) → (length xs == 0) ≡ false → xs ≢ []
@@ -82,9 +111,11 @@ piece_split taken piece i h =
     append_assoc (taken ++ take i piece) (get_or piece i 0 ∷ []) (drop (i + 1) piece) ∙ (append_assoc taken (take i piece) (get_or piece i 0 ∷ drop (i + 1) piece)
     ∙ ap (λ (l : List ℕ). taken ++ l) (ap (λ (l : List ℕ). take i piece ++ l) (sym (drop_more piece i 0 h)) ∙ take-append-drop i piece))
 
-pub within_piece : {R : Type 0} (HasRun : List (List ℕ) → R → Option (List ℕ) → Type 0) (StopsAt : End → List ℕ → List (List ℕ) → R → Option (List ℕ) → Type 0) (end : End) (taken piece : List ℕ) (i : ℕ) (runner : R) (written : Option (List ℕ)) → i < length piece → StopsWithin HasRun StopsAt end ((taken ++ take i piece) ++ get_or piece i 0 ∷ []) runner written → StopsWithin HasRun StopsAt end (taken ++ piece) runner written
+pub within_piece : {R : Type 0} (HasRun : List (List ℕ) → R → Option (List ℕ) → Type 0) (StopsAt : End → List ℕ → List (List ℕ) → R → Option (List ℕ) → Type 0) (end : End) (taken piece : List ℕ) (i : ℕ) (runner : R) (written : Option (List ℕ)) → i < length piece → StopsWithin HasRun StopsAt end ((taken ++ take i piece) ++ get_or piece i 0 ∷ []) 1 runner written → StopsWithin HasRun StopsAt end (taken ++ piece) (length piece) runner written
 within_piece HasRun StopsAt end taken piece i runner written h s =
-    subst (λ (l : List ℕ). StopsWithin HasRun StopsAt end l runner written) (piece_split taken piece i h) (within_more HasRun StopsAt end ((taken ++ take i piece) ++ get_or piece i 0 ∷ []) (drop (i + 1) piece) runner written s)
+    let fits : 1 + length (drop (i + 1) piece) ≤ length piece = omega (arith, h, length-drop (i + 1) piece) in
+    subst (λ (l : List ℕ). StopsWithin HasRun StopsAt end l (length piece) runner written) (piece_split taken piece i h)
+    (within_more HasRun StopsAt end ((taken ++ take i piece) ++ get_or piece i 0 ∷ []) (drop (i + 1) piece) 1 (length piece) runner written fits s)
 
 pub taken_byte : {R : Type 0} (HasRun : List (List ℕ) → R → Option (List ℕ) → Type 0) (taken piece : List ℕ) (i : ℕ) (runner : R) (pending : List ℕ) (written : Option (List ℕ)) → i < length piece → HasTaken HasRun ((taken ++ take i piece) ++ get_or piece i 0 ∷ []) runner pending written → HasTaken HasRun (taken ++ take (i + 1) piece) runner pending written
 taken_byte HasRun taken piece i runner pending written h s =

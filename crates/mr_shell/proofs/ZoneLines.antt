@@ -1,5 +1,5 @@
 -- A scenario that is read for its ranges, as its lines are read and run.
-use Rattle.std.proofs.Common.{◌≡◌, ℕ, List, [], ◌∷◌, ◌++◌, Option, Some, None, refl, ap, sym, ◌∙◌, subst, length, take, add-one}
+use Rattle.std.proofs.Common.{◌≡◌, ℕ, List, [], ◌∷◌, ◌++◌, Option, Some, None, refl, ap, sym, ◌∙◌, subst, inl, length, add-one}
 use Rattle.mr_base.specs.declared.nodes.NodeInfo.{NodeInfo}
 use Rattle.region_sql.specs.declared.region_statements.RegionStatement.{RegionStatement}
 use Rattle.scenario.specs.declared.lines.Line.{Line}
@@ -7,21 +7,21 @@ use Rattle.scenario.specs.declared.lines.Line.TheVariants as lines
 use Rattle.zone_report.specs.Statements.{CarriesOut, Zoned, next}
 use Rattle.zone_report.specs.declared.refused.SqlRefusal.{SqlRefusal}
 use Rattle.mr_shell.specs.Ends.{EndsLines}
-use Rattle.mr_shell.specs.Texts.{Wrote}
-use Rattle.mr_shell.specs.ZoneStory.{Does, TellsZones, ZoneStory, answer_text}
+use Rattle.mr_shell.specs.Texts.{WritesPart, Wrote}
+use Rattle.mr_shell.specs.ZoneStory.{Does, ReadsZones, ZoneStory, answer_text}
 use Rattle.zone_report.specs.Laws.{without_databases}
-use Rattle.mr_shell.specs.ZonesSession.{HasReadZones, HasRunZones, StopsAtZones, WritesPart, zoned_in}
+use Rattle.mr_shell.specs.ZonesSession.{HasReadZones, HasRunZones, StopsAtZones, zoned_in}
 use Rattle.mr_shell.specs.declared.outcome.End.{End}
 use Rattle.mr_shell.specs.declared.outcome.End.TheVariants as ends
 use Rattle.mr_shell.specs.declared.zones_session.ZonesSession.{ZonesSession}
-use Rattle.mr_shell.proofs.RunLemmas.{wrote-more}
+use Rattle.mr_shell.proofs.Written.{part_behind, wrote-more}
 
 -- a line that leaves all as it was
 pub has_run_quiet : (start : Option (List ℕ)) (line : Line) (text : List ℕ) (before : List (List ℕ)) (session : ZonesSession) (written : Option (List ℕ)) (h : HasReadZones start line text before session written) → Does h.story (record h.story { seen = session.scenario }) line → HasRunZones start (text ∷ before) session written
 has_run_quiet start line text before session written h does =
     record {
       story = record h.story { seen = session.scenario };
-      tells = (h.story, h.tells, line, h.read, does);
+      tells = (h.story, h.tells, (line, h.read, does));
       seen = refl;
       number = h.number ∙ add-one (length before);
       holds = record { zoned = h.holds.zoned; nodes = h.holds.nodes; text = h.holds.text };
@@ -31,7 +31,7 @@ pub has_run_node : (start : Option (List ℕ)) (info : NodeInfo) (clock : ℕ) (
 has_run_node start info clock text before session written nodes more h =
     record {
       story = record { seen = session.scenario; zoned = without_databases (h.story.zoned.nodes ++ info ∷ []); refused = h.story.refused };
-      tells = (h.story, h.tells, lines.Node info clock, h.read, (refl, refl));
+      tells = (h.story, h.tells, (lines.Node info clock, h.read, (refl, refl)));
       seen = refl;
       number = h.number ∙ add-one (length before);
       holds = record {
@@ -54,15 +54,15 @@ pub carried : (session : ZonesSession) (zones : Option Zoned) (answer : Option S
 carried session zones answer nodes said statement e k h =
     subst (λ (t : List ℕ). CarriesOut t (zoned_in session.nodes session.zones) answer (zoned_in session.nodes zones)) k (subst (λ (ns : List NodeInfo). CarriesOut said (zoned_in ns session.zones) answer (zoned_in ns zones)) e h)
 
-tells_sql : (start : Option (List ℕ)) (statement text : List ℕ) (before : List (List ℕ)) (session : ZonesSession) (zones : Option Zoned) (answer : Option SqlRefusal) (mid : Option (List ℕ)) (h : HasReadZones start (lines.Sql statement) text before session mid) → CarriesOut statement (zoned_in session.nodes session.zones) answer (zoned_in session.nodes zones) → TellsZones (text ∷ before) (after_sql session h.story zones answer)
-tells_sql start statement text before session zones answer mid h carries =
-    (h.story, h.tells, lines.Sql statement, h.read, (answer, subst (λ (z : Zoned). CarriesOut statement z answer (zoned_in session.nodes zones)) (sym h.holds.zoned) carries, refl))
+step_sql : (start : Option (List ℕ)) (statement text : List ℕ) (before : List (List ℕ)) (session : ZonesSession) (zones : Option Zoned) (answer : Option SqlRefusal) (mid : Option (List ℕ)) (h : HasReadZones start (lines.Sql statement) text before session mid) → CarriesOut statement (zoned_in session.nodes session.zones) answer (zoned_in session.nodes zones) → ReadsZones h.story text (after_sql session h.story zones answer)
+step_sql start statement text before session zones answer mid h carries =
+    (lines.Sql statement, h.read, (answer, subst (λ (z : Zoned). CarriesOut statement z answer (zoned_in session.nodes zones)) (sym h.holds.zoned) carries, refl))
 
 pub has_run_sql : (start : Option (List ℕ)) (statement text : List ℕ) (before : List (List ℕ)) (session : ZonesSession) (zones : Option Zoned) (answer : Option SqlRefusal) (mid written : Option (List ℕ)) → CarriesOut statement (zoned_in session.nodes session.zones) answer (zoned_in session.nodes zones) → Wrote mid written (answer_text answer) → HasReadZones start (lines.Sql statement) text before session mid → HasRunZones start (text ∷ before) (record session { zones = zones }) written
 has_run_sql start statement text before session zones answer mid written carries w h =
     record {
       story = after_sql session h.story zones answer;
-      tells = tells_sql start statement text before session zones answer mid h carries;
+      tells = (h.story, h.tells, step_sql start statement text before session zones answer mid h carries);
       seen = refl;
       number = h.number ∙ add-one (length before);
       holds = record {
@@ -74,9 +74,21 @@ has_run_sql start statement text before session zones answer mid written carries
 
 -- the line of a refused statement wasn't written whole
 pub stops_at_sql : (end : End) (start : Option (List ℕ)) (statement text : List ℕ) (before : List (List ℕ)) (session : ZonesSession) (zones : Option Zoned) (answer : Option SqlRefusal) (mid written : Option (List ℕ)) → CarriesOut statement (zoned_in session.nodes session.zones) answer (zoned_in session.nodes zones) → EndsLines end → WritesPart end (answer_text answer) mid written → HasReadZones start (lines.Sql statement) text before session mid → StopsAtZones start end text before written
-stops_at_sql ends.Memory start statement text before session zones answer mid written carries is w h = (h.story, h.tells, w ∙ h.holds.text)
+stops_at_sql ends.Memory start statement text before session zones answer mid written carries is w h =
+    inl (h.story, record { tells = h.tells; made = refl }, w ∙ h.holds.text)
 stops_at_sql ends.Write start statement text before session zones answer mid written carries is w h =
-    (h.story, after_sql session h.story zones answer, h.tells, tells_sql start statement text before session zones answer mid h carries, answer_text answer, refl, w.0, wrote-more start mid written h.story.refused (take w.0 (answer_text answer)) h.holds.text w.1)
+    let then = after_sql session h.story zones answer in
+    let step = step_sql start statement text before session zones answer mid h carries in (
+      h.story,
+      then,
+      [],
+      [],
+      record { were = record { tells = h.tells; made = refl }; step = step; made = refl },
+      refl,
+      answer_text answer,
+      refl,
+      part_behind start mid written h.story.refused (answer_text answer) h.holds.text w,
+    )
 stops_at_sql ends.Whole start statement text before session zones answer mid written carries is w h = absurd is
 stops_at_sql ends.Usage start statement text before session zones answer mid written carries is w h = absurd w
 stops_at_sql ends.Read start statement text before session zones answer mid written carries is w h = absurd w

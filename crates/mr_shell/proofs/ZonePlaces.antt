@@ -12,7 +12,9 @@ use Rattle.zone_report.specs.Ranges.{ranges}
 use Rattle.zone_report.specs.Statements.{CarriesOut, Zoned, next}
 use Rattle.zone_report.specs.declared.refused.SqlRefusal.{SqlRefusal}
 use Rattle.mr_shell.specs.ZoneNodes.{AreSeenNodes, MayRunZones}
-use Rattle.mr_shell.specs.ZoneStory.{Does, RangesStand, TellsZones, ZoneStory}
+use Rattle.mr_shell.specs.Course.{Tells}
+use Rattle.mr_shell.specs.ZoneStory.{Does, RangesStand, ZoneStory}
+use Rattle.mr_shell.specs.ZonesEnded.{zones_course}
 use Rattle.mr_shell.proofs.ZoneNodes.{are_nodes, may_run}
 
 -- what the lines so far tell: the nodes are those that were seen, and where there is one each range stands
@@ -78,9 +80,9 @@ seen_at_first =
       names = All-nil (λ s. IsUtf8 s.region);
     }
 
-told_by : RangesArePlaced → (lines : List (List ℕ)) (story : ZoneStory) → TellsZones lines story → IsTold story
+told_by : RangesArePlaced → (lines : List (List ℕ)) (story : ZoneStory) → Tells zones_course lines story → IsTold story
 told_by law [] story e = subst IsTold (sym e) (record { nodes = seen_at_first; placed = λ some. absurd (some refl); empty = λ none. refl })
-told_by law (text ∷ before) story (earlier, tells, line, read, does) =
+told_by law (text ∷ before) story (earlier, tells, (line, read, does)) =
     let told = told_by law before earlier tells in
     with_line law earlier story line told (may_run earlier.seen story.seen earlier.zoned.nodes text line told.nodes read) does
 
@@ -89,5 +91,5 @@ stand story [] told e = subst (λ (z : Zoned). All (StandsAsShown z.nodes) (rang
 stand story (node ∷ nodes) told e = (told.placed (λ none. cc)).placed
 
 -- each range stands where it is shown, whatever lines tell of it
-pub ranges_stand : RangesArePlaced → (lines : List (List ℕ)) (story : ZoneStory) → TellsZones lines story → RangesStand story
+pub ranges_stand : RangesArePlaced → (lines : List (List ℕ)) (story : ZoneStory) → Tells zones_course lines story → RangesStand story
 ranges_stand law lines story tells = stand story story.zoned.nodes (told_by law lines story tells) refl

@@ -1,4 +1,4 @@
-use Rattle.std.specs.Prelude.{◌≡◌, ◌≢◌, ◌⊎◌, ℕ, List, [], ◌∷◌, ◌++◌, All, Option}
+use Rattle.std.specs.Prelude.{◌≡◌, ◌≢◌, ◌⊎◌, ◌<◌, ◌≤◌, ℕ, List, [], ◌∷◌, ◌++◌, All, Option, length}
 use Rattle.std.specs.Io.KnownBytes.{IsAtEnd}
 
 -- A byte that isn't the line feed.
@@ -22,13 +22,6 @@ pub record IsCut (bytes : List ℕ) (lines : List (List ℕ)) (rest : List ℕ) 
   pub within : All IsWithinLine rest
   pub whole : bytes ≡ front ++ rest
 
--- Bytes begin with these lines.
-pub record BeginsWith (bytes : List ℕ) (lines : List (List ℕ)) : Type 0 where
-  pub front : List ℕ
-  pub beyond : List ℕ
-  pub ended : AreLines front lines
-  pub whole : bytes ≡ front ++ beyond
-
 -- A source has ended: what stands behind the last line feed is a line too, if anything does.
 abbrev pub with_last : (rest : List ℕ) → (lines : List (List ℕ)) → List (List ℕ)
 with_last [] lines = lines
@@ -42,6 +35,32 @@ pub record AreAllLines (taken : List ℕ) (left : Option (List ℕ)) (lines : Li
   pub last : lines ≡ with_last rest ended
   pub source : IsAtEnd left
 
--- The bytes taken of a source, of which these are left, begin with these lines.
-abbrev pub AreFirstLines : (taken : List ℕ) → (left : Option (List ℕ)) → (lines : List (List ℕ)) → Type 0
-AreFirstLines taken left lines = BeginsWith taken lines ⊎ AreAllLines taken left lines
+-- No more bytes than the largest scenario has. (This project's profile.)
+abbrev pub IsWithinLimit : (taken : List ℕ) → Type 0
+IsWithinLimit taken = length taken ≤ 16777216
+
+-- Bytes are these lines, and then less than a piece of 65,536 bytes: the end of the newest line came with the last
+-- piece.
+pub record EndWithPiece (taken : List ℕ) (lines : List (List ℕ)) : Type 0 where
+  pub front : List ℕ
+  pub ahead : List ℕ
+  pub ended : AreLines front lines
+  pub whole : taken ≡ front ++ ahead
+  pub piece : length ahead < 65536
+
+-- Bytes are these lines and a rest without a line feed, and then a piece at most.
+pub record StopWithPiece (taken : List ℕ) (lines : List (List ℕ)) : Type 0 where
+  pub front : List ℕ
+  pub rest : List ℕ
+  pub ahead : List ℕ
+  pub cut : IsCut front lines rest
+  pub whole : taken ≡ front ++ ahead
+  pub piece : length ahead ≤ 65536
+
+-- No piece was taken after the one with the end of the newest of these lines, or the source ended there.
+abbrev pub AreTakenFor : (taken : List ℕ) → (left : Option (List ℕ)) → (lines : List (List ℕ)) → Type 0
+AreTakenFor taken left lines = EndWithPiece taken lines ⊎ AreAllLines taken left lines
+
+-- Each whole line that was taken before the last piece is one of these lines.
+abbrev pub AreTakenBefore : (taken : List ℕ) → (left : Option (List ℕ)) → (lines : List (List ℕ)) → Type 0
+AreTakenBefore taken left lines = StopWithPiece taken lines ⊎ AreAllLines taken left lines

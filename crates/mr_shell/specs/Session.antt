@@ -1,4 +1,4 @@
-use Rattle.std.specs.Prelude.{◌≡◌, ◌≢◌, ◌⊎◌, ℕ, ◌+◌, ◌<◌, ◌^◌, [], List, Option, length}
+use Rattle.std.specs.Prelude.{◌≡◌, ◌≢◌, ℕ, ◌+◌, ◌<◌, ◌^◌, [], List, Option, length}
 use Rattle.mr_base.specs.declared.settings.Settings.{Settings}
 use Rattle.scenario.specs.FirstPath.{Reads}
 use Rattle.journal.specs.Names.{NamesOnly}
@@ -10,11 +10,12 @@ use Rattle.scenario.specs.declared.first_path.Expected.TheVariants as expected
 use Rattle.one_node.specs.Bounds.{AreSettings}
 use Rattle.one_node.specs.Cluster.{IsRunOf, IsStep}
 use Rattle.one_node.specs.View.{View}
-use Rattle.mr_shell.specs.Run.{AreRun, report_of, ShowsAll, ShowsEntries, ShowsPart, EndsSaying, EndsShort, EndsUnwritten}
-use Rattle.mr_shell.specs.Story.{Story, Tells, HasFault}
+use Rattle.mr_shell.specs.Course.{Tells}
+use Rattle.mr_shell.specs.RunEnded.{run_course, run_shown}
+use Rattle.mr_shell.specs.Stopped.{StopsAtLine}
+use Rattle.mr_shell.specs.Story.{Story}
 use Rattle.mr_shell.specs.Texts.{Report, Wrote}
 use Rattle.mr_shell.specs.declared.outcome.End.{End}
-use Rattle.mr_shell.specs.declared.outcome.End.TheVariants as ends
 use Rattle.mr_shell.specs.declared.session.Session.{Session}
 
 -- The next line may be run: the cluster has entries exactly where `begin` was read.
@@ -35,12 +36,12 @@ pub record Follows (story : Story) (settings : Settings) (cluster : View) (repor
   pub made : settings ≡ story.run.settings
   pub run : IsRunOf story.run cluster
   pub names : NamesOnly (λ t. t.0 < length story.seen.names) cluster.journal
-  pub text : Wrote report.start written (report_of report.mode story cluster.journal)
+  pub text : Wrote report.start written (run_shown report.mode story cluster.journal)
 
 -- A session that makes this report, once these lines were read and run, the newest first, none of them with a fault.
 pub record HasRun (report : Report) (lines : List (List ℕ)) (session : Session) (written : Option (List ℕ)) : Type 0 where
   pub story : Story
-  pub tells : Tells lines story
+  pub tells : Tells run_course lines story
   pub seen : session.scenario ≡ story.seen
   pub shown : session.mode ≡ report.mode
   pub number : session.lines ≡ length lines
@@ -49,7 +50,7 @@ pub record HasRun (report : Report) (lines : List (List ℕ)) (session : Session
 -- The same once the next line was read so, and before it is run.
 pub record HasRead (report : Report) (line : Line) (text : List ℕ) (lines : List (List ℕ)) (session : Session) (written : Option (List ℕ)) : Type 0 where
   pub story : Story
-  pub tells : Tells lines story
+  pub tells : Tells run_course lines story
   pub read : Reads story.seen text line session.scenario
   pub shown : session.mode ≡ report.mode
   pub number : session.lines ≡ length lines + 1
@@ -57,15 +58,4 @@ pub record HasRead (report : Report) (line : Line) (text : List ℕ) (lines : Li
 
 -- Why a line ends the run, and what was written then.
 abbrev pub StopsAt : Report → End → List ℕ → List (List ℕ) → List JournalEntry → (written : Option (List ℕ)) → Type 0
-StopsAt report (ends.Fault fault number) text lines journal written =
-    (number ≡ length lines + 1)
-    × (story : Story) × HasFault story text fault × AreRun lines story journal × Wrote report.start written (report_of report.mode story journal)
-StopsAt report ends.Memory text lines journal written = ShowsAll lines report journal written ⊎ ShowsEntries text lines report journal written
-StopsAt report ends.Write text lines journal written = ShowsPart text lines report journal written
-StopsAt report _ text lines journal written = ⊥
-
--- Why a run ends, before anything is said of it, and what was written then.
-abbrev pub Stops : End → (taken : List ℕ) → (left : Option (List ℕ)) → Report → List JournalEntry → (written : Option (List ℕ)) → Type 0
-Stops ends.Memory taken left report journal written = EndsShort taken left report journal written
-Stops ends.Write taken left report journal written = EndsUnwritten taken left report journal written
-Stops end taken left report journal written = EndsSaying [] end taken left report journal written
+StopsAt report end text lines journal written = StopsAtLine run_course (run_shown report.mode) end text lines journal report.start written

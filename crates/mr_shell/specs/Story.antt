@@ -1,4 +1,4 @@
-use Rattle.std.specs.Prelude.{◌≡◌, ℕ, ◌+◌, List, [], ◌∷◌, false, length}
+use Rattle.std.specs.Prelude.{◌≡◌, ℕ, List, [], false}
 use Rattle.journal.specs.Settings.{the_standard_settings}
 use Rattle.one_node_laws.specs.LinesRun.{LinesRun, no_lines, with_line}
 use Rattle.scenario.specs.FirstPath.{Reads, HasNoLine}
@@ -26,13 +26,9 @@ run_with s number (lines.Node info clock) = no_lines s.settings clock
 run_with s number (lines.Event e) = with_line s number e
 run_with s number _ = s
 
--- These lines, the newest first, are read one after the other from the start, none of them with a fault,
--- and this is what they tell.
-abbrev pub Tells : List (List ℕ) → Story → Type 0
-Tells [] story = story ≡ no_story
-Tells (text ∷ before) story =
-    (earlier : Story) × Tells before earlier × (line : Line) × Reads earlier.seen text line story.seen
-    × (story.run ≡ run_with earlier.run (length before + 1) line)
+-- The next line, of this number, is read without a fault, and this is told then.
+abbrev pub ReadsOn : (old : Story) → ℕ → (text : List ℕ) → (new : Story) → Type 0
+ReadsOn old number text new = (line : Line) × Reads old.seen text line new.seen × (new.run ≡ run_with old.run number line)
 
 -- The next line has this fault.
 abbrev pub HasFault : Story → List ℕ → ℕ → Type 0

@@ -1,4 +1,4 @@
-use Rattle.std.specs.Prelude.{◌≡◌, ◌⊎◌, ⊤, ℕ, List, [], ◌++◌, Option, codes, reverse, decimal, take}
+use Rattle.std.specs.Prelude.{◌≡◌, ◌⊎◌, ⊤, ℕ, ◌<◌, List, [], ◌++◌, Option, codes, reverse, decimal, take, length}
 use Rattle.std.specs.Io.KnownBytes.{append_known}
 use Rattle.std.specs.List.{flat_map}
 use Rattle.journal_text.specs.EntryText.{entry_text}
@@ -27,12 +27,24 @@ journal_text mode names journal = texts mode names (reverse journal)
 abbrev pub Wrote : (start written : Option (List ℕ)) → List ℕ → Type 0
 Wrote start written text = written ≡ append_known start text
 
+-- What a sink that held `start` has been given since is the front and a part of this text: something of it was left
+-- to be written.
+abbrev pub WrotePart : (start written : Option (List ℕ)) → (front text : List ℕ) → Type 0
+WrotePart start written front text = (count : ℕ) × (count < length text) × Wrote start written (front ++ take count text)
+
+-- Writing a text: it was written whole, or memory ran out before, or a write failed.
+abbrev pub WritesPart : End → (text : List ℕ) → (start written : Option (List ℕ)) → Type 0
+WritesPart ends.Whole text start written = Wrote start written text
+WritesPart ends.Memory text start written = written ≡ start
+WritesPart ends.Write text start written = WrotePart start written [] text
+WritesPart _ text start written = ⊥
+
 -- Where the writing of entries, the oldest first, stops: for want of memory between two of them, for a
 -- failed write anywhere.
 abbrev pub ShowsSome : End → Mode → List (List ℕ) → List JournalEntry → (start written : Option (List ℕ)) → Type 0
 ShowsSome ends.Memory mode names entries start written =
     (shown unshown : List JournalEntry) × (entries ≡ shown ++ unshown) × Wrote start written (texts mode names shown)
-ShowsSome ends.Write mode names entries start written = (count : ℕ) × Wrote start written (take count (texts mode names entries))
+ShowsSome ends.Write mode names entries start written = WrotePart start written [] (texts mode names entries)
 ShowsSome _ mode names entries start written = ⊥
 
 -- The line that says why a run ends, where there is one.
@@ -40,10 +52,6 @@ abbrev pub last_line : End → List ℕ
 last_line (ends.Fault fault line) = codes "! S" ++ decimal fault ++ codes " line " ++ decimal line ++ codes "\n"
 last_line ends.Size = codes "! size\n"
 last_line _ = []
-
--- The line of words that are no command.
-abbrev pub usage_line : List ℕ
-usage_line = codes "! usage: run [--trace | --summary] | zones [--json] | gen SEED SIZE | work SEED SIZE\n"
 
 -- A last line tells of an end.
 abbrev pub IsTold : End → Type 0
@@ -62,4 +70,4 @@ abbrev pub Says : (end result : End) → (start written : Option (List ℕ)) →
 Says end result start written =
     ((result ≡ end) × Wrote start written (last_line end))
     ⊎ (((result ≡ ends.Memory) × IsMade end × (written ≡ start))
-    ⊎ ((result ≡ ends.Write) × IsTold end × (count : ℕ) × Wrote start written (take count (last_line end))))
+    ⊎ ((result ≡ ends.Write) × IsTold end × WrotePart start written [] (last_line end)))

@@ -37,13 +37,9 @@ Does old new (lines.Sql text) =
     (answer : Option SqlRefusal) × CarriesOut text old.zoned answer new.zoned × (new.refused ≡ old.refused ++ answer_text answer)
 Does old new _ = (new.zoned ≡ old.zoned) × (new.refused ≡ old.refused)
 
--- These lines, the newest first, are read one after the other from the start, none of them with a fault,
--- and this is what they tell.
-abbrev pub TellsZones : List (List ℕ) → ZoneStory → Type 0
-TellsZones [] story = story ≡ no_zone_story
-TellsZones (text ∷ before) story =
-    (earlier : ZoneStory) × TellsZones before earlier × (line : Line) × (reads earlier.seen nothing_told text ≡ Ok (line, story.seen))
-    × Does earlier story line
+-- The next line is read without a fault, and this is told then.
+abbrev pub ReadsZones : (old : ZoneStory) → (text : List ℕ) → (new : ZoneStory) → Type 0
+ReadsZones old text new = (line : Line) × (reads old.seen nothing_told text ≡ Ok (line, new.seen)) × Does old new line
 
 -- The next line has this fault.
 abbrev pub HasZoneFault : ZoneStory → List ℕ → ℕ → Type 0

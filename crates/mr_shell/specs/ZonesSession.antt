@@ -1,14 +1,15 @@
-use Rattle.std.specs.Prelude.{◌≡◌, ℕ, ◌+◌, List, Option, Some, None, Ok, length, take}
+use Rattle.std.specs.Prelude.{◌≡◌, ℕ, ◌+◌, List, [], Option, Some, None, Ok, length}
 use Rattle.mr_base.specs.declared.nodes.NodeInfo.{NodeInfo}
 use Rattle.scenario.specs.Lines.{reads}
 use Rattle.scenario.specs.declared.lines.Line.{Line}
 use Rattle.zone_report.specs.Statements.{Zoned}
+use Rattle.mr_shell.specs.Course.{Tells}
+use Rattle.mr_shell.specs.Stopped.{StopsAtLine}
 use Rattle.mr_shell.specs.Texts.{Wrote}
-use Rattle.mr_shell.specs.ZoneRun.{ShowsPartOf}
-use Rattle.mr_shell.specs.ZoneStory.{ZoneStory, TellsZones, HasZoneFault, nothing_told}
+use Rattle.mr_shell.specs.ZoneStory.{ZoneStory, nothing_told}
+use Rattle.mr_shell.specs.ZonesEnded.{zones_course, zones_shown}
 use Rattle.zone_report.specs.Laws.{without_databases}
 use Rattle.mr_shell.specs.declared.outcome.End.{End}
-use Rattle.mr_shell.specs.declared.outcome.End.TheVariants as ends
 use Rattle.mr_shell.specs.declared.zones_session.ZonesSession.{ZonesSession}
 
 -- The nodes with the catalog over them, which is made once it is needed.
@@ -25,7 +26,7 @@ pub record Holds (story : ZoneStory) (session : ZonesSession) (start written : O
 -- A session once these lines were read and run, the newest first, none of them with a fault.
 pub record HasRunZones (start : Option (List ℕ)) (lines : List (List ℕ)) (session : ZonesSession) (written : Option (List ℕ)) : Type 0 where
   pub story : ZoneStory
-  pub tells : TellsZones lines story
+  pub tells : Tells zones_course lines story
   pub seen : session.scenario ≡ story.seen
   pub number : session.lines ≡ length lines
   pub holds : Holds story session start written
@@ -33,23 +34,11 @@ pub record HasRunZones (start : Option (List ℕ)) (lines : List (List ℕ)) (se
 -- The same once the next line was read so, and before it is run.
 pub record HasReadZones (start : Option (List ℕ)) (line : Line) (text : List ℕ) (lines : List (List ℕ)) (session : ZonesSession) (written : Option (List ℕ)) : Type 0 where
   pub story : ZoneStory
-  pub tells : TellsZones lines story
+  pub tells : Tells zones_course lines story
   pub read : reads story.seen nothing_told text ≡ Ok (line, session.scenario)
   pub number : session.lines ≡ length lines + 1
   pub holds : Holds story session start written
 
 -- Why a line ends the command, and what was written then.
 abbrev pub StopsAtZones : (start : Option (List ℕ)) → End → List ℕ → List (List ℕ) → (written : Option (List ℕ)) → Type 0
-StopsAtZones start (ends.Fault fault number) text lines written =
-    (number ≡ length lines + 1)
-    × (story : ZoneStory) × HasZoneFault story text fault × TellsZones lines story × Wrote start written story.refused
-StopsAtZones start ends.Memory text lines written = (story : ZoneStory) × TellsZones lines story × Wrote start written story.refused
-StopsAtZones start ends.Write text lines written = ShowsPartOf text lines start written
-StopsAtZones start _ text lines written = ⊥
-
--- Writing a text: it was written whole, or memory ran out before, or a write failed.
-abbrev pub WritesPart : End → (text : List ℕ) → (start written : Option (List ℕ)) → Type 0
-WritesPart ends.Whole text start written = Wrote start written text
-WritesPart ends.Memory text start written = written ≡ start
-WritesPart ends.Write text start written = (count : ℕ) × Wrote start written (take count text)
-WritesPart _ text start written = ⊥
+StopsAtZones start end text lines written = StopsAtLine zones_course zones_shown end text lines [] start written

@@ -64,3 +64,15 @@ impl From<Memory> for End {
         End::Memory
     }
 }
+
+impl From<Failed> for End {
+    ghost use Rattle.std.specs.Prelude.{◌≡◌};
+    ghost use Rattle.mr_shell.specs.declared.outcome.End.TheVariants.{Write};
+
+    ghost from_gives = { λ _ e. e ≡ Write };
+
+    /// A write that failed.
+    fn from(_e: Failed) -> End {
+        End::Write
+    }
+}

@@ -3,10 +3,9 @@
 ghost use Rattle.std.specs.Prelude.{◌≡◌, ◌≤◌, ◌+◌, ◌<◌, ℕ, List, Option, [], ◌∷◌, ◌++◌, IfErr, IfOk, OnErr, OnOk, length, take, vec_len};
 ghost use Rattle.std.specs.Io.KnownBytes.{IsAtEnd, prepend_known};
 ghost use Rattle.mr_io.specs.Faults.{CountsFault};
-ghost use Rattle.mr_shell.specs.Content.{IsContent};
+ghost use Rattle.mr_shell.specs.Content.{IsContent, IsWithinLimit};
 ghost use Rattle.mr_shell.specs.Ends.{EndsLines, EndsPieces};
-ghost use Rattle.mr_shell.specs.Pieces.{HasTaken, Stops, StopsWithin};
-ghost use Rattle.mr_shell.specs.Run.{AfterTaking, IsWithinLimit};
+ghost use Rattle.mr_shell.specs.Pieces.{AfterTaking, HasTaken, Stops, StopsWithin};
 ghost use Rattle.mr_shell.specs.Texts.{Report};
 
 use crate::outcome::End;
@@ -118,7 +117,7 @@ fn run_piece<R: Runner, K: Sink>(
     requires { R.is_ready runner.old }
     ensures ready { OnOk result (R.is_ready runner.new) }
     ensures runs { OnOk result ((report : Report) (taken : List ℕ) → HasTaken (R.has_run report) taken runner.old pending.old.items (K.written sink.old) → HasTaken (R.has_run report) (taken ++ piece.now) runner.new pending.new.items (K.written sink.new)) }
-    ensures stops { IfErr result (λ e. (report : Report) (taken : List ℕ) → HasTaken (R.has_run report) taken runner.old pending.old.items (K.written sink.old) → StopsWithin (R.has_run report) (R.stops_at report) e (taken ++ piece.now) runner.new (K.written sink.new)) }
+    ensures stops { IfErr result (λ e. (report : Report) (taken : List ℕ) → HasTaken (R.has_run report) taken runner.old pending.old.items (K.written sink.old) → StopsWithin (R.has_run report) (R.stops_at report) e (taken ++ piece.now) (length piece.now) runner.new (K.written sink.new)) }
     ensures ends { IfErr result EndsLines }
     ensures failed { result ≡ Err End.Write → CountsFault (K.faults sink.old) (K.faults sink.new) K.most_faults }
     ensures never_falls { K.faults sink.old ≤ K.faults sink.new }
@@ -138,7 +137,7 @@ fn run_byte<R: Runner, K: Sink>(
     requires { R.is_ready runner.old }
     ensures ready { OnOk result (R.is_ready runner.new) }
     ensures runs { OnOk result ((report : Report) (taken : List ℕ) → HasTaken (R.has_run report) taken runner.old pending.old.items (K.written sink.old) → HasTaken (R.has_run report) (taken ++ byte ∷ []) runner.new pending.new.items (K.written sink.new)) }
-    ensures stops { IfErr result (λ e. (report : Report) (taken : List ℕ) → HasTaken (R.has_run report) taken runner.old pending.old.items (K.written sink.old) → StopsWithin (R.has_run report) (R.stops_at report) e (taken ++ byte ∷ []) runner.new (K.written sink.new)) }
+    ensures stops { IfErr result (λ e. (report : Report) (taken : List ℕ) → HasTaken (R.has_run report) taken runner.old pending.old.items (K.written sink.old) → StopsWithin (R.has_run report) (R.stops_at report) e (taken ++ byte ∷ []) 1 runner.new (K.written sink.new)) }
     ensures ends { IfErr result EndsLines }
     ensures failed { result ≡ Err End.Write → CountsFault (K.faults sink.old) (K.faults sink.new) K.most_faults }
     ensures never_falls { K.faults sink.old ≤ K.faults sink.new }

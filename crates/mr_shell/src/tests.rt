@@ -1,7 +1,9 @@
 //! Scenarios with their reports, over sources and sinks in memory.
 
+ghost use Rattle.std.specs.Prelude.{◌≡◌};
+
 use crate::top::top;
-use mr_io::{MemSink, MemSource};
+use mr_io::{Failed, MemSink, MemSource, Source};
 use std::alloc::Global;
 use std::test::Fail;
 
@@ -18,6 +20,41 @@ fn report(
     let mut sink = MemSink::new(alloc, 4096, writes)?;
     let outcome = top(alloc, words.as_slice(), &mut source, &mut sink);
     Ok((sink.written().to_vec(alloc)?, outcome.status))
+}
+
+/// A source that gives at most a line a call.
+#[derive(Drop)]
+struct LineByLine {
+    content: MemSource,
+    /// The lengths of the lines that are left, the last one first.
+    lengths: Vec<usize>,
+}
+
+impl Source for LineByLine {
+    ghost use Rattle.std.specs.Prelude.{Some};
+    ghost use Rattle.mr_io.specs.Faults.{last_count};
+
+    ghost left = { λ s. Some s.content.left };
+
+    ghost faults = { λ s. s.content.faults };
+
+    ghost most_faults = { last_count };
+
+    fn read(&mut self, buf: &mut [u8]) -> Result<usize, Failed> {
+        let line = self.lengths.pop().unwrap_or(1).max(1);
+        let end = line.min(buf.len());
+        self.content.read(&mut buf[..end])
+    }
+}
+
+/// A source that gives the scenario at most a line a call, and whose listed calls fail.
+fn line_by_line(alloc: Global, scenario: &[u8], failing: &[u32]) -> Result<LineByLine, Fail> {
+    let mut lengths = Vec::new(alloc);
+    for line in scenario.split_inclusive(|b| *b == b'\n').rev() {
+        lengths.push(line.len())?;
+    }
+    let content = MemSource::new(alloc, scenario, failing)?;
+    Ok(LineByLine { content, lengths })
 }
 
 const SCENARIO: &[u8] = b"cluster
@@ -115,5 +152,19 @@ fn one_byte_more_than_the_largest_is_too_large(rt: HostRuntime) -> Result<(), Fa
     scenario.push(b'#')?;
     let (bytes, status) = report(alloc, scenario.as_slice(), none.as_slice(), none.as_slice())?;
     assert!(rt; bytes.as_slice() == b"! size\n".as_slice() && status == 7);
+    Ok(())
+}
+
+#[test]
+fn a_line_is_answered_before_more_is_asked_for(rt: HostRuntime) -> Result<(), Fail> {
+    let alloc = rt.alloc();
+    let none: [u32; 0] = [];
+    let mut words = Vec::new(alloc);
+    words.push(String::from_str(alloc, "run")?)?;
+    let mut source = line_by_line(alloc, SCENARIO, [7].as_slice())?;
+    let mut sink = MemSink::new(alloc, 4096, none.as_slice())?;
+    let outcome = top(alloc, words.as_slice(), &mut source, &mut sink);
+    assert!(rt; sink.written() == b"ack t1 1000.0.1\n= insert 1\n".as_slice());
+    assert!(rt; outcome.status == 3);
     Ok(())
 }

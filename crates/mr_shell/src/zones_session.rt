@@ -8,15 +8,16 @@ ghost use Rattle.zone_report.specs.Nodes.{AreNodes};
 ghost use Rattle.zone_report.specs.Report.{report_text};
 ghost use Rattle.zone_report.specs.Statements.{CarriesOut};
 ghost use Rattle.mr_shell.specs.Ends.{EndsLines};
-ghost use Rattle.mr_shell.specs.Texts.{Wrote};
+ghost use Rattle.mr_shell.specs.Texts.{WritesPart, Wrote};
 ghost use Rattle.mr_shell.specs.ZoneNodes.{AreSeenNodes, MayRunZones};
 ghost use Rattle.mr_shell.specs.ZoneStory.{answer_text};
-ghost use Rattle.mr_shell.specs.ZonesSession.{HasReadZones, HasRunZones, StopsAtZones, WritesPart, zoned_in};
+ghost use Rattle.mr_shell.specs.ZonesSession.{HasReadZones, HasRunZones, StopsAtZones, zoned_in};
 
 use crate::outcome::End;
+use crate::report::write_text;
 use crate::runner::Runner;
 use mr_base::{Bytes, ListOf, Memory, NodeInfo};
-use mr_io::{Sink, write_all};
+use mr_io::Sink;
 use scenario::{Line, LineFault, NoWorld, Scenario};
 use std::alloc::Global;
 use zone_report::{Format, SqlRefusal, Zones};
@@ -136,7 +137,10 @@ impl ZonesSession {
         };
         match zones.report(format) {
             Err(_) => End::Memory,
-            Ok(text) => write_text(text.as_slice(), sink),
+            Ok(text) => match write_text(text.as_slice(), sink) {
+                Ok(()) => End::Whole,
+                Err(end) => end,
+            },
         }
     }
 }
@@ -178,23 +182,7 @@ fn write_answer<K: Sink>(
         return Ok(());
     };
     let line = refusal.line(alloc)?;
-    match write_text(line.as_slice(), sink) {
-        End::Whole => Ok(()),
-        end => Err(end),
-    }
-}
-
-/// Writes a text: `End::Whole` where it was written whole, and `End::Write` where a write failed.
-fn write_text<K: Sink>(text: &[u8], sink: &mut K) -> End
-    ensures writes { WritesPart result text.now (K.written sink.old) (K.written sink.new) }
-    ensures ends { (result ≡ End.Whole) ⊎ (result ≡ End.Write) }
-    ensures failed { result ≡ End.Write → CountsFault (K.faults sink.old) (K.faults sink.new) K.most_faults }
-    ensures never_falls { K.faults sink.old ≤ K.faults sink.new }
-{
-    match write_all(sink, text) {
-        Ok(()) => End::Whole,
-        Err(_) => End::Write,
-    }
+    write_text(line.as_slice(), sink)
 }
 
 impl Runner for ZonesSession {

@@ -4,7 +4,7 @@ use Rattle.mr_shell.proofs.pieces.run_byte.Goals as goal
 
 pub returns-in-Err-clause-stops : goal.returns-in-Err-clause-stops
 returns-in-Err-clause-stops g c =
-    λ report taken h. within_short (g.R.Runner.has_run report) (g.R.Runner.stops_at report) taken c.args.runner.now c.args.pending.now.items (g.K.Sink.written c.args.sink.now) c.args.byte h
+    λ report taken h. within_short (g.R.Runner.has_run report) (g.R.Runner.stops_at report) taken c.args.runner.now c.args.pending.now.items (g.K.Sink.written c.args.sink.now) c.args.byte c.if-byte-ne10.true h
 
 pub returns-in_err-run_next-clause-stops : goal.returns-in_err-run_next-clause-stops
 returns-in_err-run_next-clause-stops g c =

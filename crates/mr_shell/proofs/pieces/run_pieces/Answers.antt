@@ -64,6 +64,7 @@ returns-in_err-run_piece-clause-stops g c =
     let piece = take c.in_ok-count.count c.read_piece.new.buffer in
     let below : c.pieces.taken < 16777216 = omega (arith, c.pieces.invariant.bounded, c.if-taken-eq-LARGEST.false) in
     let fits : c.in_ok-count.count ≤ length c.read_piece.new.buffer = omega (arith, c.read_piece.auto.buffer, c.pieces.auto.buffer, c.requires.room, c.in_ok-count.ensures.within) in
+    let many : length piece ≤ 65536 = omega (arith, length-take-le c.in_ok-count.count c.read_piece.new.buffer fits, c.in_ok-count.ensures.within) in
     let p = err_from_is_err_and c.from_residual-in_err-run_piece.result c.from_residual-in_err-run_piece.ensures.1 in
     rw (p.1, p.2)
     (λ report h.
@@ -72,7 +73,7 @@ returns-in_err-run_piece-clause-stops g c =
     let within : length (so.0 ++ piece) ≤ 16777216 = omega (arith, grown, c.in_ok-count.ensures.bounded below) in (
       so.0 ++ piece,
       told_more (g.S.Source.left c.args.source.now) (g.S.Source.left c.pieces.source) (g.S.Source.left c.read_piece.new.source) so.0 piece so.1 c.in_ok-count.ensures.told,
-      stops_within (g.R.Runner.has_run report) (g.R.Runner.stops_at report) c.in_err-run_piece.field-0.0 (so.0 ++ piece) (g.S.Source.left c.read_piece.new.source) c.run_piece.new.runner (g.K.Sink.written c.run_piece.new.sink) c.in_err-run_piece.ensures.ends within
+      stops_within (g.R.Runner.has_run report) (g.R.Runner.stops_at report) c.in_err-run_piece.field-0.0 (so.0 ++ piece) (g.S.Source.left c.read_piece.new.source) (length piece) c.run_piece.new.runner (g.K.Sink.written c.run_piece.new.sink) c.in_err-run_piece.ensures.ends within many
           (c.in_err-run_piece.ensures.stops report so.0 so.3),
     ))
 

@@ -1,11 +1,14 @@
-use Rattle.std.proofs.Common.{ap, ◌∙◌, arith, List, ℕ, take}
-use Rattle.std.specs.Io.KnownBytes.{append_known}
+use Rattle.std.proofs.Common.{List, [], ℕ, ap, ◌∙◌, inl, inr, subst}
+use Rattle.mr_shell.specs.Ends.{status_of}
+use Rattle.mr_shell.specs.Texts.{Wrote, WrotePart}
 use Rattle.mr_shell.proofs.top.usage.Goals as goal
 use Rattle.mr_shell.proofs.top.usage.Goals.{in-Ok, in-Err}
 
-pub returns-clause-unwritten : goal.returns-clause-unwritten
-returns-clause-unwritten g c =
-    elim c.match-write_all.branch [
-      | in-Ok w ↦ λ e. absurd (omega (arith, e, w.status-is, w.status-status.ensures))
-      | in-Err w ↦ λ e. let p = w.in-Err.ensures.part in (p.0, p.2 ∙ ap (λ (l : List ℕ). append_known (g.K.Sink.written c.args.sink.now) (take p.0 l)) c.as_bytes.ensures.value)
+pub returns-clause-line : goal.returns-clause-line
+returns-clause-line g c =
+    let start = g.K.Sink.written c.args.sink.now in
+    let written = g.K.Sink.written c.write_text.new.sink in
+    elim c.match-write_text.branch [
+      | in-Ok w ↦ inl (c.status-status.ensures ∙ ap status_of w.end-is, subst (λ (text : List ℕ). Wrote start written text) c.as_bytes.ensures.value w.in-Ok.ensures.whole)
+      | in-Err w ↦ inr (inl (c.status-status.ensures ∙ ap status_of (w.end-is ∙ w.in-Err.ensures.ends), subst (WrotePart start written []) c.as_bytes.ensures.value w.in-Err.ensures.part))
     ]
