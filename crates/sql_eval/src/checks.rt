@@ -75,7 +75,8 @@ fn source_fault(t: &Table, value: &Value) -> Option<SqlState>
 
 /// A target of UPDATE with its value, after these.
 fn target_fault(t: &Table, before: &[Target], x: &Target) -> Option<SqlState>
-    ensures { result ≡ option_or (set_fault t.now (map (λ b. b.column) before.now) x.now.column) (source_fault t.now x.now.value) }
+    ensures { result ≡ option_or (set_fault t.now (map (λ b. b.column) before.now) x.now.column)
+        (source_fault t.now x.now.value) }
 {
     let name = x.column.as_slice();
     if let Some(fault) = unknown_fault(t, name) {

@@ -67,7 +67,8 @@ fn insert_on(
     literals: &[Literals],
     rows: &[Row],
 ) -> Result<OnRows, Stop>
-    ensures { Answers (on_rows (named n.now) gateway.now (RowStatement.Insert [] columns.now literals.now) rows.now) result }
+    ensures { Answers
+        (on_rows (named n.now) gateway.now (RowStatement.Insert [] columns.now literals.now) rows.now) result }
 {
     let region = default_region(n.database, gateway);
     let made = made_rows(alloc, n.table, region, columns, literals)?;
@@ -86,7 +87,8 @@ fn select_on(
     terms: &[Term],
     rows: &[Row],
 ) -> Result<OnRows, Stop>
-    ensures { Answers (on_rows (named n.now) gateway.now (RowStatement.Select [] wanted.now terms.now) rows.now) result }
+    ensures { Answers
+        (on_rows (named n.now) gateway.now (RowStatement.Select [] wanted.now terms.now) rows.now) result }
 {
     let answer = select(alloc, n.table, wanted, terms, rows)?;
     Ok((answer, RowList::copy_of(alloc, rows)?))
@@ -102,7 +104,8 @@ fn update_on(
     terms: &[Term],
     rows: &[Row],
 ) -> Result<OnRows, Stop>
-    ensures { Answers (on_rows (named n.now) gateway.now (RowStatement.Update [] targets.now terms.now) rows.now) result }
+    ensures { Answers
+        (on_rows (named n.now) gateway.now (RowStatement.Update [] targets.now terms.now) rows.now) result }
 {
     let old = matched_rows(alloc, n.table, terms, rows)?;
     let new = changed_rows(alloc, n.table, targets, old.as_slice())?;
@@ -177,7 +180,8 @@ fn on_table(
     s: &RowStatement,
     rows: &[Row],
 ) -> Result<OnRows, Stop>
-    ensures { Answers (unless (check_fault n.now.table.now n.now.database.now s.now) (on_rows (named n.now) gateway.now s.now rows.now)) result }
+    ensures { Answers (unless (check_fault n.now.table.now n.now.database.now s.now)
+        (on_rows (named n.now) gateway.now s.now rows.now)) result }
 {
     if let Err(fault) = check(s, n.table, n.database) {
         return Err(Stop::State(fault));

@@ -110,7 +110,8 @@ fn column_fault(target: &Column, source: &Column) -> Option<SqlState>
 
 /// Why a sum or difference isn't a value for a column.
 fn sum_fault(by: i128, target: &Column, source: &Column) -> Option<SqlState>
-    ensures { result ≡ sum_fault (literals.Int by) (target.now.name.now, target.now.ty) (source.now.name.now, source.now.ty) }
+    ensures { result ≡ sum_fault (literals.Int by)
+        (target.now.name.now, target.now.ty) (source.now.name.now, source.now.ty) }
 {
     if !is_int(target.ty) {
         return Some(SqlState::S42804);

@@ -97,7 +97,8 @@ pub(crate) fn made_value(
     row: &[Literal],
     name: &[u8],
 ) -> Result<Option<Datum>, Stop>
-    ensures { Answers (checked_option (option_or (given_value names.now row.now name.now) (region_if region.now name.now))) result }
+    ensures { Answers (checked_option
+        (option_or (given_value names.now row.now name.now) (region_if region.now name.now))) result }
 {
     if let Some(l) = given_literal(names, row, name) {
         return Ok(Some(literal_value(alloc, l)?));
@@ -161,7 +162,8 @@ pub(crate) fn changed_value(
     place: usize,
     name: &[u8],
 ) -> Result<Option<Datum>, Stop>
-    ensures { Answers (checked_option (option_or (set_value t.now targets.now old.now name.now) (slice_get old.now place))) result }
+    ensures { Answers (checked_option
+        (option_or (set_value t.now targets.now old.now name.now) (slice_get old.now place))) result }
 {
     if let Some(v) = set_value(alloc, t, targets, old, name)? {
         return Ok(Some(v));
