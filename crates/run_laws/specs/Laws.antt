@@ -1,15 +1,18 @@
 use Rattle.std.specs.List.{Contains}
-use Rattle.std.specs.Prelude.{List, Some, length, ℕ, ◌↔◌, ◌∷◌, ◌≡◌, ◌≤◌}
+use Rattle.std.specs.Prelude.{List, None, Option, Some, length, ℕ, ⊤, ◌↔◌, ◌∷◌, ◌≡◌, ◌≤◌}
 use Rattle.mr_base.specs.Spans.{InSpan}
 use Rattle.mr_base.specs.Timestamps.{IsBelow}
 use Rattle.mr_base.specs.declared.ids.AttemptId.{AttemptId}
 use Rattle.mr_base.specs.declared.ids.NodeId.{NodeId}
 use Rattle.mr_base.specs.declared.ids.RangeId.{RangeId}
 use Rattle.mr_base.specs.declared.ids.TxnId.{TxnId}
+use Rattle.mr_base.specs.declared.messages.Fate.TheVariants as fates
+use Rattle.mr_base.specs.declared.messages.Fate.{Fate}
 use Rattle.mr_base.specs.declared.timestamps.Ts.{Ts}
 use Rattle.mvcc_range.specs.Answer.{IsRow}
 use Rattle.mvcc_range.specs.RefreshAnswer.{IsNewerWrite, Refresh}
 use Rattle.range_log.specs.declared.entries.TxnState.TheVariants as states
+use Rattle.range_log.specs.declared.entries.TxnState.{TxnState}
 use Rattle.row_locality.specs.Plain.{range_pairs}
 use Rattle.run_laws.specs.Beginnings.{IsSoundSetup}
 use Rattle.run_laws.specs.Decided.{AreDecided, Decided, replay_below}
@@ -17,13 +20,13 @@ use Rattle.run_laws.specs.Held.{IsHeld}
 use Rattle.run_laws.specs.Lawful.{IsLawful, IsPermitted}
 use Rattle.run_laws.specs.Serial.{IsSerial}
 use Rattle.run_laws.specs.Visible.{DecidesAt, IsVisible}
-use Rattle.run_words.specs.Attempts.{Attempt, attempt_of}
+use Rattle.run_words.specs.Attempts.{Attempt, above, attempt_of}
 use Rattle.run_words.specs.Happened.{Happened, IsPlace}
 use Rattle.run_words.specs.History.{History, Item}
 use Rattle.run_words.specs.Logs.{applied, log_of}
 use Rattle.run_words.specs.Puts.{CommitMade, PutMade, commit, record_of}
 use Rattle.run_words.specs.Ranges.{layout_of}
-use Rattle.run_words.specs.Relations.{IsPut, IsServe, WasPut, WasServed}
+use Rattle.run_words.specs.Relations.{IsPut, IsServe, Stood, WasPut, WasServed}
 use Rattle.run_words.specs.Serving.{ServedRead, serves}
 use Rattle.run_words.specs.Setup.{Setup}
 use Rattle.run_words.specs.Transactions.{Beginning, beginning}
@@ -74,6 +77,23 @@ abbrev pub BeginningStays : Type 0
 BeginningStays =
     (setup : Setup) (h older : History) (t : TxnId) (b : Beginning) → IsLawful setup h → IsPlace older h
     → beginning older t ≡ Some b → beginning h t ≡ Some b
+
+-- What a record said of its attempt's writes at some moment since a transaction began is so from then on: they count at
+-- that timestamp; or they never count; or, if they ever count, then above it.
+abbrev pub IsPast : Ts → Option TxnState → Type 0
+IsPast ts None = ⊥
+IsPast ts (Some (states.Pending above)) = ¬ IsBelow above ts
+IsPast ts (Some (states.Committed at)) = IsBelow ts at
+IsPast ts (Some (states.Aborted by)) = ⊤
+
+abbrev pub HoldsOf : Fate → Option TxnState → Type 0
+HoldsOf (fates.Committed ts) state = state ≡ Some (states.Committed ts)
+HoldsOf fates.Aborted state = (by : AttemptId) × (state ≡ Some (states.Aborted by))
+HoldsOf (fates.Pushed ts) state = IsPast ts state
+
+abbrev pub WhatStoodHolds : Type 0
+WhatStoodHolds =
+    (setup : Setup) (h : History) (t : TxnId) (b : AttemptId) (f : Fate) → IsLawful setup h → Stood t b f h → HoldsOf f (record_of h b)
 
 -- No node has applied more than stands in the log.
 abbrev pub AppliedIsWithin : Type 0
