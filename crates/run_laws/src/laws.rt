@@ -1,6 +1,6 @@
 //! The laws of lawful histories. Each is the contract of a function that does nothing.
 
-ghost use Rattle.run_laws.specs.Laws.{AppliedIsWithin, AttemptStays, BeginningStays, CommitIsRecord, CommitStays, EachIsPermitted, OlderIsLawful, PutWasPermitted, ServedWasPermitted, WhatStoodHolds};
+ghost use Rattle.run_laws.specs.Staying.{AppliedIsWithin, AttemptStays, BeginningStays, CommitIsRecord, CommitStays, EachIsPermitted, OlderIsLawful, PutWasPermitted, ServedWasPermitted, WhatStoodHolds};
 
 /// What happened until some moment of a lawful history is lawful.
 pub fn older_is_lawful()
