@@ -1,3 +1,4 @@
+use Rattle.std.specs.List.{Contains}
 use Rattle.std.specs.Prelude.{None, Option, Some, length, ⊤, ◌∷◌, ◌≡◌, ◌≤◌}
 use Rattle.mr_base.specs.Timestamps.{IsBelow}
 use Rattle.mr_base.specs.declared.ids.AttemptId.{AttemptId}
@@ -14,7 +15,7 @@ use Rattle.run_words.specs.Attempts.{Attempt, above, attempt_of}
 use Rattle.run_words.specs.Happened.{IsPlace}
 use Rattle.run_words.specs.History.{History, Item}
 use Rattle.run_words.specs.Logs.{applied, log_of}
-use Rattle.run_words.specs.Puts.{CommitMade, PutMade, commit, record_of}
+use Rattle.run_words.specs.Puts.{CommitMade, PutMade, commit, puts, record_of}
 use Rattle.run_words.specs.Relations.{IsPut, IsServe, Stood, WasPut, WasServed}
 use Rattle.run_words.specs.Serving.{ServedRead}
 use Rattle.run_words.specs.Setup.{Setup}
@@ -54,6 +55,12 @@ abbrev pub CommitStays : Type 0
 CommitStays =
     (setup : Setup) (h older : History) (a : AttemptId) (made : CommitMade) → IsLawful setup h → IsPlace older h
     → commit older a ≡ Some made → commit h a ≡ Some made
+
+-- An attempt that committed puts nothing above its commit, before it or later.
+abbrev pub CommitIsAbovePuts : Type 0
+CommitIsAbovePuts =
+    (setup : Setup) (h : History) (a : AttemptId) (made : CommitMade) (put : PutMade) → IsLawful setup h → commit h a ≡ Some made
+    → Contains (puts h a) put → ¬ IsBelow made.ts put.ts
 
 -- An attempt stays as it was begun, and a transaction too.
 abbrev pub AttemptStays : Type 0
