@@ -1,5 +1,6 @@
-use Rattle.std.specs.Prelude.{All, AllPairs, IsSome, None, Option, Some, [], map, reverse, ℕ, ◌++◌, ◌<◌, ◌∷◌, ◌≡◌, ◌≢◌, ◌≤◌}
+use Rattle.std.specs.Prelude.{All, AllPairs, IsSome, None, Option, Some, [], map, reverse, true, ℕ, ◌++◌, ◌<◌, ◌∷◌, ◌≡◌, ◌≢◌, ◌≤◌}
 use Rattle.descriptors.specs.Sound.{AreDistinct}
+use Rattle.hlc.specs.Readings.{nothing}
 use Rattle.mr_base.specs.declared.ids.RangeId.{RangeId}
 use Rattle.mr_base.specs.declared.timestamps.Ts.{Ts}
 use Rattle.range_log.specs.declared.entries.Entry.TheVariants as log
@@ -10,7 +11,7 @@ use Rattle.row_locality.specs.Plain.{IsSoundLayout, IsValid, range_pairs}
 use Rattle.run_words.specs.Clocks.{peak}
 use Rattle.run_words.specs.Nodes.{boot}
 use Rattle.run_words.specs.Ranges.{range_of}
-use Rattle.run_words.specs.Setup.{Setup}
+use Rattle.run_words.specs.Setup.{NodeSetup, Setup}
 
 -- With what a history may begin so that the laws on all lawful histories hold: in a whole run with nothing; behind a
 -- schema change with the rows that it left, all at its timestamp. (This project's profile.)
@@ -46,3 +47,18 @@ pub record IsSoundSetup (setup : Setup) : Type 0 where
   pub at : AreRowsAt setup setup.schema
   pub begins : (j : RangeId) → IsSome (range_of setup [] j) → BeginsWith setup j setup.schema
   pub others : (j : RangeId) → range_of setup [] j ≡ None → setup.beginning j ≡ []
+
+-- A node of a whole run: it runs, at its first boot, and its clock has seen nothing.
+pub record IsFreshNode (node : NodeSetup) : Type 0 where
+  pub running : node.runs ≡ true
+  pub boot_is : node.boot ≡ 1
+  pub seen_is : node.seen ≡ nothing
+
+-- A whole run begins with such nodes, and with no entries, rows, schema changes, attempts or messages.
+pub record IsFreshSetup (setup : Setup) : Type 0 where
+  pub nodes : All IsFreshNode setup.nodes
+  pub entries : (j : RangeId) → setup.beginning j ≡ []
+  pub rows : (place : ℕ) → setup.rows place ≡ []
+  pub unchanged : setup.schema ≡ None
+  pub attempts_are : setup.attempts ≡ 0
+  pub messages_are : setup.messages ≡ 0

@@ -42,7 +42,7 @@ abbrev pub Answers : List StatementResult → Executed → Type 0
 Answers results (Ok x) = x.0 ≡ results
 Answers results (Err state) = ⊥
 
--- What a timestamp is compared with: all, or those above the rows with which the ranges begin.
+-- The timestamps of which a history speaks: all, or those above that of the rows with which its ranges begin.
 abbrev pub IsInPart : Setup → Ts → Type 0
 IsInPart setup ts = (changed : Ts) → setup.schema ≡ Some changed → IsBelow changed ts
 
