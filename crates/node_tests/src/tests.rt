@@ -2,3 +2,4 @@ mod caches;
 mod clocks;
 mod flights;
 mod logs;
+mod replicas;
