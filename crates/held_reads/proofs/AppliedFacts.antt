@@ -1,11 +1,11 @@
-use Rattle.std.proofs.Common.{◌≡◌, ℕ, suc, ◌+◌, ◌≤◌, Bool, true, false, cond, max, min, List, [], ◌∷◌, length, inl, inr, ⊎_elim, refl, sym, ap, ◌∙◌, subst, le_refl, le_trans, arith}
-use Rattle.std.specs.Prelude.{◌⊎◌, ◌==◌, ◌||◌, true}
+use Rattle.std.proofs.Common.{◌≡◌, ℕ, suc, ◌+◌, ◌≤◌, Bool, true, false, cond, max, min, List, [], ◌∷◌, length, ⊎_elim, refl, sym, subst, le_refl, le_trans, arith}
+use Rattle.std.specs.Prelude.{◌==◌, ◌||◌, true}
 use Rattle.journal.specs.declared.entries.JournalEntry.TheVariants as entry
 use Rattle.mr_base.specs.declared.ids.NodeId.{NodeId}
 use Rattle.mr_base.specs.declared.ids.RangeId.{RangeId}
 use Rattle.range_log.specs.declared.entries.Entry.{Entry}
 use Rattle.held_reads.proofs.Basics.{ranges_same}
-use Rattle.held_reads.specs.KeepsReads.{IsKeptForReads, KeepsReads}
+use Rattle.held_reads.specs.KeepsReads.{KeepsReads}
 use Rattle.run_laws.specs.OrderEvents.{IsApplied}
 use Rattle.run_words.specs.History.{History, Item, Made}
 use Rattle.run_words.specs.Logs.{actor, applied, is_node_of, log_of, makes_ranges}

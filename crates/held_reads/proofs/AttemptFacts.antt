@@ -1,5 +1,5 @@
-use Rattle.std.proofs.Common.{◌≡◌, ℕ, false, ◌≤◌, ◌+◌, ◌∷◌, [], inl, inr, ⊎_elim, refl, sym, ap, ◌∙◌, subst, arith, option_map, option_and_then}
-use Rattle.std.specs.Prelude.{◌⊎◌, ◌==◌, Option, Some, None}
+use Rattle.std.proofs.Common.{◌≡◌, ℕ, false, ◌≤◌, ◌+◌, ◌∷◌, [], ⊎_elim, refl, sym, ap, ◌∙◌, subst, arith, option_map, option_and_then}
+use Rattle.std.specs.Prelude.{◌==◌, Option, Some, None}
 use Rattle.journal.specs.declared.entries.JournalEntry.TheVariants as entry
 use Rattle.journal.specs.declared.events.Event.{Event}
 use Rattle.journal.specs.declared.events.Event.TheVariants as events

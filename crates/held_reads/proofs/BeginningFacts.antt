@@ -1,6 +1,6 @@
-use Rattle.std.proofs.Common.{◌≡◌, ◌≢◌, ℕ, ◌≤◌, Bool, true, false, List, [], ◌∷◌, ◌++◌, map, reverse, inl, inr, ⊎_elim, refl, sym, ap, ◌∙◌, subst, arith}
+use Rattle.std.proofs.Common.{◌≡◌, ◌≢◌, ℕ, ◌≤◌, Bool, true, false, List, [], ◌∷◌, ◌++◌, map, reverse, ⊎_elim, refl, sym, ◌∙◌, subst, arith}
 use mathlib.Core.List.{reverse_aux}
-use Rattle.std.specs.Prelude.{◌⊎◌, ◌&&◌, ⊤, T, Option, Some, None, IsSome}
+use Rattle.std.specs.Prelude.{◌&&◌, ⊤, T, Option, Some, None, IsSome}
 use Rattle.std.specs.Cmp.{tied_itself}
 use Rattle.std.specs.Cmp.Lexicographic.{nat_list_cmp_total}
 use Rattle.std.specs.FinMap.Entries.{below_all, is_sorted, is_sorted-put, put}

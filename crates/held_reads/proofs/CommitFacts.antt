@@ -1,5 +1,5 @@
-use Rattle.std.proofs.Common.{◌≡◌, ℕ, ◌≤◌, false, List, [], ◌∷◌, inl, inr, ⊎_elim, refl, sym, ap, ◌∙◌, subst}
-use Rattle.std.specs.Prelude.{◌⊎◌, ◌==◌, Option, Some}
+use Rattle.std.proofs.Common.{◌≡◌, ℕ, ◌≤◌, List, [], ◌∷◌, inl, inr, ⊎_elim, sym, ap, ◌∙◌, subst}
+use Rattle.std.specs.Prelude.{◌==◌, Option, Some}
 use Rattle.journal.specs.declared.entries.JournalEntry.TheVariants as entry
 use Rattle.mr_base.specs.Timestamps.{IsBelow}
 use Rattle.mr_base.specs.declared.ids.AttemptId.{AttemptId}
@@ -11,9 +11,9 @@ use Rattle.range_log.specs.declared.entries.Entry.TheVariants as log
 use Rattle.range_log.specs.declared.entries.TxnState.TheVariants as states
 use Rattle.held_reads.proofs.AttemptFacts.{IsNumbered, attempt_stays, is_numbered}
 use Rattle.held_reads.proofs.Basics.{attempts_same, cond_cases, cond_false, cond_true, not_none, some_same, true_or_false}
-use Rattle.held_reads.proofs.PutFacts.{greatest_above_put, greatest_not_below, greatest_owner, put_owned}
+use Rattle.held_reads.proofs.PutFacts.{greatest_not_below, greatest_owner, put_owned}
 use Rattle.held_reads.proofs.TsLemmas.{later_left, le_trans, not_itself}
-use Rattle.held_reads.specs.KeepsReads.{IsKeptForReads, KeepsReads}
+use Rattle.held_reads.specs.KeepsReads.{KeepsReads}
 use Rattle.run_laws.specs.Served.{IsAsked}
 use Rattle.run_words.specs.Attempts.{Attempt, attempt_of, greatest_put}
 use Rattle.run_words.specs.History.{History, Made}

@@ -1,5 +1,5 @@
 use Rattle.std.proofs.Common.{◌≡◌, ℕ, ◌+◌, ◌≤◌, Bool, true, false, cond, max, List, [], ◌∷◌, length, inl, inr, ⊎_elim, refl, sym, ap, ◌∙◌, subst, le_trans, true≢false, arith}
-use Rattle.std.specs.Prelude.{◌⊎◌, ◌==◌, ◌||◌, Option, Some, None}
+use Rattle.std.specs.Prelude.{◌⊎◌, ◌==◌, ◌||◌, Option, Some}
 use Rattle.closed_ts.specs.Targets.{at_wall}
 use Rattle.journal.specs.declared.entries.JournalEntry.TheVariants as entry
 use Rattle.journal.specs.declared.events.Event.{Event}
@@ -22,7 +22,7 @@ use Rattle.held_reads.proofs.TsLemmas.{later_left, le_trans as not_below_trans}
 use Rattle.held_reads.specs.KeepsReads.{IsKeptForReads, KeepsReads}
 use Rattle.run_laws.specs.Appended.{IsByHolder, IsLeased}
 use Rattle.run_laws.specs.Beginnings.{IsSoundSetup}
-use Rattle.run_words.specs.History.{History, Item, Made, Ran}
+use Rattle.run_words.specs.History.{History, Made, Ran}
 use Rattle.run_words.specs.Logs.{actor, applied, is_node_of, log_of, makes_ranges}
 use Rattle.run_words.specs.Nodes.{boot}
 use Rattle.run_words.specs.Setup.{Setup}

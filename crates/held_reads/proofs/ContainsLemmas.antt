@@ -1,5 +1,5 @@
-use Rattle.std.proofs.Common.{◌≡◌, List, [], ◌∷◌, inl, inr, ⊎_elim, refl, sym, ap, ◌∙◌, subst}
-use Rattle.std.specs.Prelude.{◌⊎◌, Option}
+use Rattle.std.proofs.Common.{◌≡◌, List, [], ◌∷◌, inl, inr, ⊎_elim, refl, sym, subst}
+use Rattle.std.specs.Prelude.{Option}
 use Rattle.std.specs.List.{Contains}
 use Rattle.std.proofs.Common.{ℕ}
 use Rattle.mr_base.specs.declared.ids.AttemptId.{AttemptId}

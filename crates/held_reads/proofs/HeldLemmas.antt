@@ -7,13 +7,11 @@ use Rattle.mr_base.specs.declared.ids.AttemptId.{AttemptId}
 use Rattle.mr_base.specs.declared.messages.Fate.{Fate}
 use Rattle.mr_base.specs.declared.messages.Fate.TheVariants as fates
 use Rattle.mr_base.specs.declared.timestamps.Ts.{Ts}
-use Rattle.mvcc_range.specs.Answer.{IsNewest, IsRow, Read, Sees, Settles, TellsFate}
+use Rattle.mvcc_range.specs.Answer.{IsRow, Read, Sees, Settles, TellsFate}
 use Rattle.range_log.specs.Facts.{HasIntent, HasVersion, IsInPlaceOf, Laid, Version}
 use Rattle.range_log.specs.declared.entries.Entry.{Entry}
-use Rattle.range_log.specs.declared.entries.Entry.TheVariants as log
 use Rattle.range_log.specs.declared.entries.TxnState.TheVariants as states
 use Rattle.range_log.specs.declared.entries.TxnState.{TxnState}
-use Rattle.held_reads.proofs.Basics.{some_same}
 use Rattle.held_reads.proofs.CommitFacts.{IsHigh, commit_high, own_commit}
 use Rattle.held_reads.proofs.ContainsLemmas.{load_among, load_in, put_in}
 use Rattle.held_reads.proofs.FateLemmas.{tells_one, tells_or_not}

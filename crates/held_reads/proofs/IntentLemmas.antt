@@ -1,5 +1,5 @@
-use Rattle.std.proofs.Common.{◌≡◌, ℕ, ◌≤◌, List, [], ◌∷◌, inl, inr, ⊎_elim, refl, sym, ap, ◌∙◌, subst}
-use Rattle.std.specs.Prelude.{◌⊎◌, Option, Some}
+use Rattle.std.proofs.Common.{◌≡◌, ℕ, List, [], ◌∷◌, inl, inr, sym, ap, ◌∙◌, subst}
+use Rattle.std.specs.Prelude.{Option, Some}
 use Rattle.mr_base.specs.declared.ids.AttemptId.{AttemptId}
 use Rattle.mr_base.specs.declared.ids.RangeId.{RangeId}
 use Rattle.mr_base.specs.declared.messages.Fate.TheVariants as fates
@@ -9,7 +9,7 @@ use Rattle.range_log.specs.declared.entries.Entry.{Entry}
 use Rattle.range_log.specs.declared.entries.Entry.TheVariants as log
 use Rattle.range_log.specs.declared.entries.TxnState.TheVariants as states
 use Rattle.held_reads.proofs.Licenses.{AreLicensed, AreOwned, Records, attempt_by_number, repeats_committed}
-use Rattle.held_reads.proofs.LogWords.{LoadIn, PutIn}
+use Rattle.held_reads.proofs.LogWords.{PutIn}
 use Rattle.held_reads.proofs.VersionLemmas.{Made, load_unowned, unowned_apart, versions}
 
 module _ (rec : Records) (own : AreOwned rec) where

@@ -1,5 +1,5 @@
 use Rattle.std.proofs.Common.{◌≡◌, ℕ, ◌+◌, ◌≤◌, Bool, true, false, cond, List, [], ◌∷◌, inl, inr, ⊎_elim, refl, sym, ap, ◌∙◌, subst, le_refl, le_trans, option_map, arith}
-use Rattle.std.specs.Prelude.{◌⊎◌, ◌==◌, ⊤, Option, Some, None}
+use Rattle.std.specs.Prelude.{◌⊎◌, ◌==◌, ⊤, Option, Some}
 use Rattle.journal.specs.declared.entries.JournalEntry.TheVariants as entry
 use Rattle.journal.specs.declared.events.Event.{Event}
 use Rattle.journal.specs.declared.events.Event.TheVariants as events
@@ -13,11 +13,11 @@ use Rattle.range_log.specs.declared.entries.Lease.{Lease}
 use Rattle.held_reads.proofs.Basics.{same_tests}
 use Rattle.held_reads.proofs.BeginningFacts.{IsBeginning, is_beginning}
 use Rattle.held_reads.proofs.LogWords.{LeaseIn, last_lease_in}
-use Rattle.held_reads.specs.KeepsReads.{IsKeptForReads, KeepsReads}
+use Rattle.held_reads.specs.KeepsReads.{KeepsReads}
 use Rattle.run_laws.specs.Appended.{IsLeased}
 use Rattle.run_laws.specs.Beginnings.{IsSoundSetup}
 use Rattle.run_laws.specs.OrderEvents.{DrainsAt, IsDelivered}
-use Rattle.run_words.specs.History.{History, Item, Made, Ran, Ticked}
+use Rattle.run_words.specs.History.{History, Made, Ran, Ticked}
 use Rattle.run_words.specs.Logs.{actor, actor_in, appender_at, holder_of, is_node_of, log_of}
 use Rattle.run_words.specs.Nodes.{boot}
 use Rattle.run_words.specs.Setup.{Setup}

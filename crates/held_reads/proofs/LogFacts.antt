@@ -1,5 +1,5 @@
 use Rattle.std.proofs.Common.{◌≡◌, ℕ, Bool, true, false, cond, List, [], ◌∷◌, inl, inr, ⊎_elim, refl, sym, ap, ◌∙◌, subst}
-use Rattle.std.specs.Prelude.{◌⊎◌, ◌==◌, ⊤, Option, Some, None}
+use Rattle.std.specs.Prelude.{◌⊎◌, ◌==◌, ⊤, Option, Some}
 use Rattle.std.specs.List.{Contains}
 use Rattle.closed_ts.specs.Targets.{at_wall}
 use Rattle.journal.specs.declared.entries.JournalEntry.TheVariants as entry

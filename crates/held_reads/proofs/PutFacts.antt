@@ -1,5 +1,5 @@
 use Rattle.std.proofs.Common.{◌≡◌, ℕ, List, [], ◌∷◌, inl, inr, ⊎_elim, refl, sym, ap, ◌∙◌, subst, arith}
-use Rattle.std.specs.Prelude.{◌⊎◌, ◌==◌, Option, Some}
+use Rattle.std.specs.Prelude.{◌⊎◌, ◌==◌, Option}
 use Rattle.std.specs.List.{Contains}
 use Rattle.journal.specs.declared.entries.JournalEntry.TheVariants as entry
 use Rattle.mr_base.specs.Timestamps.{IsBelow}
@@ -8,17 +8,15 @@ use Rattle.mr_base.specs.declared.ids.RangeId.{RangeId}
 use Rattle.mr_base.specs.declared.timestamps.Ts.{Ts}
 use Rattle.range_log.specs.declared.entries.Entry.TheVariants as log
 use Rattle.range_rules.specs.Puts.{just_above}
-use Rattle.held_reads.proofs.AttemptFacts.{IsNumbered, is_numbered}
+use Rattle.held_reads.proofs.AttemptFacts.{is_numbered}
 use Rattle.held_reads.proofs.TsLemmas.{below_trans, later_least, later_left, later_owner, later_right, le_trans, not_itself}
-use Rattle.held_reads.specs.KeepsReads.{IsKeptForReads, KeepsReads}
+use Rattle.held_reads.specs.KeepsReads.{KeepsReads}
 use Rattle.run_laws.specs.Laid.{IsPutLaid}
 use Rattle.run_words.proofs.MemberLemmas.{contains_cases, contains_first, contains_later, contains_none, picked_cases}
-use Rattle.run_words.specs.Attempts.{Attempt, attempt_of, greatest_put}
+use Rattle.run_words.specs.Attempts.{greatest_put}
 use Rattle.run_words.specs.History.{History, Made}
-use Rattle.run_words.specs.Messages.{handled}
 use Rattle.run_words.specs.Puts.{PutMade, greatest_with, puts}
 use Rattle.run_words.specs.Setup.{Setup}
-use Rattle.run_words.specs.Transactions.{attempts}
 
 -- the greatest of a timestamp and those of puts
 pub greatest_not_below : (ts : Ts) (ps : List PutMade) → ¬ IsBelow (greatest_with ts ps) ts

@@ -1,5 +1,5 @@
-use Rattle.std.proofs.Common.{◌≡◌, ◌∷◌, inl, inr, ⊎_elim, refl, sym, ap, ◌∙◌, subst, [], false}
-use Rattle.std.specs.Prelude.{◌⊎◌, ◌==◌, Option, Some}
+use Rattle.std.proofs.Common.{◌≡◌, ◌∷◌, ⊎_elim, sym, ap, ◌∙◌, subst, []}
+use Rattle.std.specs.Prelude.{◌==◌, Option, Some}
 use Rattle.journal.specs.declared.entries.JournalEntry.TheVariants as entry
 use Rattle.mr_base.specs.declared.ids.AttemptId.{AttemptId}
 use Rattle.mr_base.specs.declared.timestamps.Ts.{Ts}
@@ -10,7 +10,7 @@ use Rattle.range_rules.specs.Records.{Goes}
 use Rattle.held_reads.proofs.Basics.{attempts_same, cond_cases, cond_false, cond_true, not_none, some_same, true_or_false}
 use Rattle.held_reads.proofs.CommitFacts.{IsHigh, commit_high}
 use Rattle.held_reads.proofs.Licenses.{AreOwned}
-use Rattle.held_reads.specs.KeepsReads.{IsKeptForReads, KeepsReads}
+use Rattle.held_reads.specs.KeepsReads.{KeepsReads}
 use Rattle.run_words.specs.History.{History, Made}
 use Rattle.run_words.specs.Puts.{CommitMade, commit, record_of}
 use Rattle.run_words.specs.Setup.{Setup}

@@ -1,22 +1,21 @@
-use Rattle.std.proofs.Common.{◌≡◌, ◌∷◌, [], inl, inr, ⊎_elim, refl, sym, ap, ◌∙◌, subst, option_map}
-use Rattle.std.specs.Prelude.{◌⊎◌, ◌==◌, ⊤, Bool, true, false, cond, Option, Some, None}
+use Rattle.std.proofs.Common.{◌≡◌, ◌∷◌, [], inl, inr, refl, sym, subst, option_map}
+use Rattle.std.specs.Prelude.{◌==◌, ⊤, Bool, true, false, cond, Option, Some, None}
 use Rattle.journal.specs.declared.entries.JournalEntry.TheVariants as entry
 use Rattle.mr_base.specs.Timestamps.{IsBelow}
 use Rattle.mr_base.specs.declared.ids.AttemptId.{AttemptId}
 use Rattle.mr_base.specs.declared.ids.TxnId.{TxnId}
 use Rattle.mr_base.specs.declared.messages.Fate.TheVariants as fates
 use Rattle.mr_base.specs.declared.messages.Fate.{Fate}
-use Rattle.mr_base.specs.declared.timestamps.Ts.{Ts}
 use Rattle.range_log.specs.declared.entries.Entry.TheVariants as log
 use Rattle.range_log.specs.declared.entries.TxnState.TheVariants as states
 use Rattle.range_log.specs.declared.entries.TxnState.{TxnState}
 use Rattle.range_rules.specs.Records.{Goes, IsAbovePending}
 use Rattle.range_rules.specs.Resolves.{Repeats}
-use Rattle.held_reads.proofs.Basics.{attempts_same, cond_cases, not_none, some_same}
+use Rattle.held_reads.proofs.Basics.{attempts_same, not_none, some_same}
 use Rattle.held_reads.proofs.TsLemmas.{le_below, le_trans, not_itself}
 use Rattle.held_reads.specs.KeepsReads.{IsKeptForReads, KeepsReads}
 use Rattle.run_words.specs.History.{History, Item, Made}
-use Rattle.run_words.specs.Puts.{CommitMade, commit, fate_of, fate_shown, record_of}
+use Rattle.run_words.specs.Puts.{fate_of, record_of}
 use Rattle.run_words.specs.Relations.{Stood, WasFated}
 use Rattle.run_words.specs.Setup.{Setup}
 

@@ -1,4 +1,4 @@
-use Rattle.std.proofs.Common.{◌≡◌, ℕ, ◌≤◌, List, inl, inr, ⊎_elim, refl, sym, ap, ◌∙◌, subst}
+use Rattle.std.proofs.Common.{◌≡◌, ℕ, List, inl, inr, refl, sym, ap, ◌∙◌, subst}
 use Rattle.std.specs.Prelude.{◌⊎◌, ◌↔◌, Option, Some, None}
 use Rattle.std.specs.List.{Contains}
 use Rattle.mr_base.specs.Spans.{InSpan}
@@ -7,8 +7,8 @@ use Rattle.mr_base.specs.declared.ids.AttemptId.{AttemptId}
 use Rattle.mr_base.specs.declared.ids.RangeId.{RangeId}
 use Rattle.mr_base.specs.declared.spans.Span.{Span}
 use Rattle.mr_base.specs.declared.timestamps.Ts.{Ts}
-use Rattle.mvcc_range.specs.Answer.{IsRow, Read, Sees}
-use Rattle.mvcc_range.specs.RefreshAnswer.{IsNewerWrite, later_read}
+use Rattle.mvcc_range.specs.Answer.{IsRow, Sees}
+use Rattle.mvcc_range.specs.RefreshAnswer.{IsNewerWrite}
 use Rattle.range_log.specs.declared.entries.Entry.{Entry}
 use Rattle.range_log.specs.declared.entries.Entry.TheVariants as log
 use Rattle.held_reads.proofs.CommitFacts.{IsHigh, IsUnder, commit_high, own_commit, served_under}

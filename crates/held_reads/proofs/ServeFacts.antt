@@ -1,5 +1,5 @@
-use Rattle.std.proofs.Common.{◌≡◌, ◌≢◌, ℕ, suc, ◌≤◌, Bool, true, false, cond, List, [], ◌∷◌, length, inl, inr, ⊎_elim, refl, sym, ap, ◌∙◌, subst, arith}
-use Rattle.std.specs.Prelude.{◌⊎◌, ◌==◌, ⊤, All, Option, Some, None}
+use Rattle.std.proofs.Common.{◌≡◌, ◌≢◌, ℕ, suc, ◌≤◌, Bool, true, false, cond, List, [], ◌∷◌, length, inl, inr, ⊎_elim, refl, sym, ◌∙◌, subst, arith}
+use Rattle.std.specs.Prelude.{◌⊎◌, ◌==◌, ⊤, All, Option}
 use Rattle.closed_ts.specs.Targets.{at_wall}
 use Rattle.journal.specs.declared.entries.How.TheVariants as how
 use Rattle.journal.specs.declared.entries.How.{How}
@@ -30,7 +30,6 @@ use Rattle.run_laws.specs.Beginnings.{IsSoundSetup}
 use Rattle.run_laws.specs.Served.{IsLearned, IsServed}
 use Rattle.run_words.specs.History.{History, Item, Made}
 use Rattle.run_words.specs.Logs.{applied, log_of, prefix}
-use Rattle.run_words.specs.Messages.{handled}
 use Rattle.run_words.specs.Puts.{record_of}
 use Rattle.run_words.specs.Relations.{WasServed}
 use Rattle.run_words.specs.Serving.{MayServe, ServedRead}

@@ -5,7 +5,7 @@ use Rattle.mr_base.specs.declared.ids.AttemptId.{AttemptId}
 use Rattle.mr_base.specs.declared.messages.Fate.{Fate}
 use Rattle.mr_base.specs.declared.messages.Fate.TheVariants as fates
 use Rattle.mr_base.specs.declared.timestamps.Ts.{Ts}
-use Rattle.range_log.specs.Facts.{Laid, HasIntent, HasVersion, IsInPlaceOf, Makes, Version}
+use Rattle.range_log.specs.Facts.{Laid, HasIntent, HasVersion, Makes, Version}
 use Rattle.range_log.specs.declared.entries.Entry.{Entry}
 use Rattle.range_log.specs.declared.entries.Entry.TheVariants as log
 use Rattle.range_log.specs.declared.entries.TxnState.TheVariants as states

@@ -1,5 +1,5 @@
 use Rattle.std.proofs.Common.{◌≡◌, ℕ, Bool, true, false, ◌<◌, inl, inr, refl, sym, ◌∙◌, arith, true≢false}
-use Rattle.std.specs.Prelude.{◌⊎◌, nat_lt, ◌==◌, ◌||◌, ◌&&◌}
+use Rattle.std.specs.Prelude.{◌⊎◌}
 use Rattle.std.proofs.lemmas.Bool.Decides.{nat_tests}
 use Rattle.closed_ts.specs.Targets.{at_wall}
 use Rattle.mr_base.specs.Timestamps.{IsBelow, ts_lt, later}
