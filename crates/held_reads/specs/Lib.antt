@@ -1,0 +1,2 @@
+pub mod KeepsReads
+pub mod Laws
