@@ -1,2 +1,4 @@
+pub mod LookupOrder
+pub mod Partitions
 pub mod SearchLaws
 pub mod Searching
