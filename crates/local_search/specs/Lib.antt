@@ -1,3 +1,4 @@
+pub mod ChangedKeys
 pub mod LookupOrder
 pub mod Partitions
 pub mod SearchLaws
