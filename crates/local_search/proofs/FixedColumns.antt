@@ -1,6 +1,6 @@
 -- The values to which terms fix columns have the types of the columns.
-use Rattle.std.proofs.Common.{◌≡◌, ℕ, ℤ, pos, negsuc, get_or, zero, suc, ◌+◌, ◌<◌, ◌≤◌, Bool, true, false, cond, List, [], ◌∷◌, ◌++◌, length, refl, sym, ap, subst, ◌∙◌, ◌⊎◌, inl, inr, arith}
-use Rattle.std.specs.Prelude.{◌≢◌, ◌&&◌, All, AllPairs, Contains, Option, Some, None, find, map, slice_get, option_map, option_and_then, unwrap_or, IsSomeAnd, IsTrue, FitsSigned}
+use Rattle.std.proofs.Common.{◌≡◌, ℕ, ℤ, pos, negsuc, get_or, zero, suc, ◌+◌, ◌<◌, ◌≤◌, Bool, true, false, cond, List, [], ◌∷◌, ◌++◌, length, refl, sym, ap, subst, ◌∙◌, arith}
+use Rattle.std.specs.Prelude.{◌≢◌, ◌&&◌, All, AllPairs, Contains, Option, Some, None, find, map, slice_get, option_map, unwrap_or, IsSomeAnd, IsTrue, FitsSigned}
 use Rattle.std.specs.Int.{w64}
 use Rattle.std.proofs.lemmas.Bool.Decides.{nat_tests}
 use Rattle.mr_base.specs.declared.rows.Datum.TheVariants as datums

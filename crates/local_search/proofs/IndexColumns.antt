@@ -1,6 +1,6 @@
 -- The columns of the index of a number, and the span of its keys.
-use Rattle.std.proofs.Common.{◌≡◌, ℕ, zero, suc, ◌+◌, ◌-◌, ◌<◌, ◌≤◌, ◌==◌, Bool, true, false, List, [], ◌∷◌, length, map, get_or, refl, sym, ap, subst, ◌∙◌, ◌⊎◌, inl, inr, arith, eqb}
-use Rattle.std.specs.Prelude.{All, AllPairs, Contains, Option, Some, None, slice_get, option_map, option_and_then, unwrap_or}
+use Rattle.std.proofs.Common.{◌≡◌, ℕ, zero, suc, ◌-◌, ◌<◌, ◌≤◌, ◌==◌, true, false, List, [], ◌∷◌, length, map, get_or, refl, sym, ap, subst, ◌∙◌, inl, inr, arith, eqb}
+use Rattle.std.specs.Prelude.{AllPairs, Contains, Option, Some, None, slice_get, option_map, option_and_then}
 use Rattle.std.specs.List.{AllZip, position_or_len}
 use Rattle.std.proofs.lemmas.Bool.Decides.{nat_tests}
 use Rattle.std.proofs.lemmas.Bool.{cases_lt}
@@ -14,7 +14,7 @@ use Rattle.descriptors.specs.declared.table.Table.{Table}
 use Rattle.descriptors.specs.Sound.{IsSoundTable}
 use Rattle.row_locality.specs.Decoding.{point_named}
 use Rattle.row_locality.specs.Keys.{types_at, index_types}
-use Rattle.row_locality.specs.Pairs.{KeyValue, key_value}
+use Rattle.row_locality.specs.Pairs.{key_value}
 use Rattle.row_locality.specs.Reading.{primary_of}
 use Rattle.row_locality.specs.Rows.{HasType, index_of, indexes}
 use Rattle.row_locality.specs.Spans.{point_of}

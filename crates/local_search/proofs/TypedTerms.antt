@@ -1,6 +1,6 @@
 -- The terms of a statement whose check finds no fault are typed.
 use Rattle.std.proofs.Common.{◌≡◌, ℕ, zero, suc, ◌<◌, ℤ, pos, negsuc, Bool, true, false, not, cond, List, [], ◌∷◌, length, refl, ap, ◌∙◌, arith}
-use Rattle.std.specs.Prelude.{◌&&◌, All, Option, Some, None, find, map, position, is_some, nat_lt, slice_get, option_and_then, IsSomeAnd, FitsSigned}
+use Rattle.std.specs.Prelude.{All, Option, Some, None, find, map, position, is_some, nat_lt, slice_get, option_and_then, IsSomeAnd, FitsSigned}
 use Rattle.std.specs.Int.{w64}
 use Rattle.std.specs.List.{AllByRecursion, position_or_len}
 use Rattle.std.specs.Option.{option_or}

@@ -1,6 +1,6 @@
 -- The partitions of a table, told from its database and the range of the first. Source: CockroachDB's
 -- documentation of table localities, in this project's profile.
-use Rattle.std.specs.Prelude.{◌≡◌, ℕ, ◌+◌, if◌then◌else◌, List, length, map, slice_get, Option, Some}
+use Rattle.std.specs.Prelude.{◌≡◌, ℕ, ◌+◌, if◌then◌else◌, List, length, map, slice_get, Some}
 use Rattle.std.specs.List.{enumerate_from}
 use Rattle.mr_base.specs.declared.ids.RangeId.{RangeId}
 use Rattle.descriptors.specs.declared.database.Database.{Database}

@@ -1,4 +1,4 @@
-use Rattle.std.proofs.Common.{◌≡◌, ◌+◌, ◌≤◌, ◌++◌, ◌∙◌, ℕ, List, map, sym, ap, subst}
+use Rattle.std.proofs.Common.{◌+◌, ◌≤◌, ◌++◌, ◌∙◌, ℕ, List, map, sym, ap, subst}
 use Rattle.std.specs.Option.{option_copied}
 use Rattle.row_locality.specs.Plain.{Partition}
 use Rattle.sql_eval.specs.Lookups.{key_lookup}

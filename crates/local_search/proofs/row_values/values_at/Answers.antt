@@ -1,4 +1,4 @@
-use Rattle.std.proofs.Common.{◌≡◌, ◌++◌, ◌∷◌, [], List, sym, ap, ◌∙◌, get_or, take}
+use Rattle.std.proofs.Common.{◌++◌, ◌∷◌, [], List, sym, ap, ◌∙◌, get_or}
 use Rattle.mr_base.specs.declared.rows.Datum.{Datum}
 use Rattle.row_locality.specs.Rows.{values_at}
 use Rattle.row_locality.proofs.EncodingLemmas.{values_more}
