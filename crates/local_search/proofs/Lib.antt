@@ -1,4 +1,10 @@
 pub mod Choices
+pub mod ColumnTypes
+pub mod FixedColumns
 pub mod FullSearches
+pub mod IndexColumns
+pub mod LookupSteps
 pub mod OrderLemmas
+pub mod RowValues
 pub mod SearchLemmas
+pub mod TypedTerms

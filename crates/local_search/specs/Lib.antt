@@ -1,2 +1,5 @@
+pub mod ChangedKeys
+pub mod LookupOrder
+pub mod Partitions
 pub mod SearchLaws
 pub mod Searching
