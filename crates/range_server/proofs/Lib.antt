@@ -1,0 +1,12 @@
+mod FloorLemmas
+mod HandleLemmas
+mod IntentLemmas
+mod LeaseLemmas
+mod LogLemmas
+mod OrderLemmas
+mod OutcomeLemmas
+mod PutLemmas
+mod ReadLemmas
+mod ResolveLemmas
+mod SettleLemmas
+mod StepLemmas

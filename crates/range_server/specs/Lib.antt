@@ -1,0 +1,14 @@
+pub mod Applying
+pub mod Closing
+pub mod Handling
+pub mod Leases
+pub mod Puts
+pub mod Reads
+pub mod Records
+pub mod Refusals
+pub mod Resolves
+pub mod Resolving
+pub mod Scene
+pub mod Seen
+pub mod Steps
+pub mod Ways
