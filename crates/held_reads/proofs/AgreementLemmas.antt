@@ -1,17 +1,12 @@
-use Rattle.std.proofs.Common.{◌≡◌, ℕ, ◌<◌, Bool, true, false, cond, List, [], ◌∷◌, ◌++◌, map, inl, inr, ⊎_elim, refl, sym, ap, ◌∙◌, subst, arith}
+use Rattle.std.proofs.Common.{◌≡◌, ℕ, ◌<◌, Bool, true, false, cond, List, [], ◌∷◌, inl, inr, ⊎_elim, refl, sym, ◌∙◌, subst, arith}
 use Rattle.std.specs.Prelude.{◌⊎◌, ◌&&◌, ⊤, T}
 use Rattle.std.specs.List.{Contains}
 use Rattle.std.specs.FinMap.Entries.{below_all, is_sorted, where_key}
 use Rattle.std.specs.Ordering.{is_lt}
-use Rattle.std.proofs.lemmas.List.Elements.{All-append}
 use Rattle.mr_base.proofs.SpanLemmas.{not_below_itself}
-use Rattle.mr_base.specs.Spans.{InSpan, IsKeyBelow}
-use Rattle.mr_base.specs.declared.script.Fed.{Fed}
-use Rattle.mr_base.specs.declared.spans.Pair.{Pair}
-use Rattle.mr_base.specs.declared.spans.Span.{Span}
-use Rattle.row_locality.proofs.PointLemmas.{is_below, is_in_decides}
-use Rattle.row_locality.specs.Pairs.{KeyValue, bytes_cmp, key_value}
-use Rattle.row_locality.specs.Spans.{is_in}
+use Rattle.mr_base.specs.Spans.{IsKeyBelow}
+use Rattle.row_locality.proofs.PointLemmas.{is_below}
+use Rattle.row_locality.specs.Pairs.{KeyValue, bytes_cmp}
 use Rattle.run_words.proofs.MemberLemmas.{contains_cases, contains_first, contains_later, contains_none}
 
 -- a member of a list, by recursion

@@ -1,5 +1,5 @@
-use Rattle.std.proofs.Common.{◌≡◌, ℕ, zero, suc, ◌<◌, List, [], ◌∷◌, ◌++◌, map, length, slice_index_or, inl, inr, ⊎_elim, refl, sym, subst, arith}
-use Rattle.std.specs.Prelude.{◌⊎◌, ◌↔◌, All, AllPairs}
+use Rattle.std.proofs.Common.{◌≡◌, ℕ, zero, suc, ◌<◌, List, [], ◌∷◌, map, length, slice_index_or, inl, inr, ⊎_elim, refl, sym, subst, arith}
+use Rattle.std.specs.Prelude.{◌↔◌, All, AllPairs}
 use Rattle.std.specs.List.{Contains}
 use Rattle.std.specs.FinMap.Entries.{where_key}
 use Rattle.std.proofs.lemmas.List.Elements.{All-append}
