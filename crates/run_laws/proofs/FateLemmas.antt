@@ -14,7 +14,7 @@ use Rattle.range_log.specs.declared.entries.TxnState.TheVariants as states
 use Rattle.journal.specs.declared.entries.JournalEntry.TheVariants as entry
 use Rattle.range_rules.specs.Records.{Goes, IsAbovePending}
 use Rattle.run_laws.specs.Lawful.{IsLawful}
-use Rattle.run_laws.specs.Laws.{HoldsOf, IsPast}
+use Rattle.run_laws.specs.Staying.{HoldsOf, IsPast}
 use Rattle.run_words.specs.History.{Item, Made, History}
 use Rattle.run_words.specs.Puts.{fate_of, record_of}
 use Rattle.run_words.specs.Relations.{Stood}

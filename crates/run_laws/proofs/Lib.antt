@@ -3,3 +3,4 @@ pub mod AttemptLemmas
 pub mod CommitLemmas
 pub mod FateLemmas
 pub mod LawfulLemmas
+pub mod PutLemmas

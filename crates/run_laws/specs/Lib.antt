@@ -28,6 +28,7 @@ pub mod Runs
 pub mod Serial
 pub mod Served
 pub mod Settled
+pub mod Staying
 pub mod TrueReplies
 pub mod Truthful
 pub mod UsedRanges

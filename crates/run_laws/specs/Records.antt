@@ -1,4 +1,4 @@
-use Rattle.std.specs.Prelude.{List, Some, ℕ, ⊤, ◌≡◌, ◌⊎◌}
+use Rattle.std.specs.Prelude.{List, [], Some, ℕ, ⊤, ◌≡◌, ◌≢◌, ◌⊎◌}
 use Rattle.journal.specs.declared.entries.JournalEntry.TheVariants as entry
 use Rattle.mr_base.specs.declared.ids.AttemptId.{AttemptId}
 use Rattle.mr_base.specs.declared.ids.RangeId.{RangeId}
@@ -20,7 +20,7 @@ use Rattle.run_words.specs.Attempts.{Attempt, attempt_of, greatest_put}
 use Rattle.run_words.specs.Happened.{Happened}
 use Rattle.run_words.specs.History.{History, Item, Made}
 use Rattle.run_words.specs.Logs.{log_of}
-use Rattle.run_words.specs.Puts.{record_of}
+use Rattle.run_words.specs.Puts.{puts, record_of}
 use Rattle.run_words.specs.Relations.{Stood}
 use Rattle.run_words.specs.Setup.{Setup}
 use Rattle.run_words.specs.Transactions.{last_attempt}
@@ -42,14 +42,15 @@ abbrev pub IsForCommit : AttemptId → RangeId → Ts → Request → Type 0
 IsForCommit a j c (requests.Commit b r at) = (b ≡ a) × (r ≡ j) × (at ≡ c)
 IsForCommit a j c _ = ⊥
 
--- An attempt commits, as it asked: it is the last of its transaction, which has no answer yet; at the greatest of its
--- read timestamp and its puts; and above all that it was pending above.
+-- An attempt commits, as it asked: it has put something, and is the last of its transaction, which has no answer yet; at
+-- the greatest of its read timestamp and its puts; and above all that it was pending above.
 pub record IsCommit (setup : Setup) (h : History) (a : AttemptId) (j : RangeId) (c : Ts) : Type 0 where
   pub place : IsHandling h a (IsForCommit a j c)
   pub attempt : Attempt
   pub is_attempt : attempt_of h a ≡ Some attempt
   pub last : last_attempt h attempt.txn ≡ Some a
   pub unanswered : ¬ WasAnswered attempt.txn h
+  pub has_put : puts h a ≢ []
   pub at_is : c ≡ greatest_put h a attempt.read_at
   pub changes : IsCommitted (record_of h a) c (states.Committed c)
 

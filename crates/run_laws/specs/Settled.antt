@@ -75,8 +75,11 @@ abbrev pub Shows : Item → Ts → Type 0
 Shows (Made (entry.Begin t a gateway start limit)) ts = ts ≡ start
 Shows (Made (entry.Serve a n j span at limit count by known)) ts = ts ≡ at
 Shows (Made (entry.Append j index (log.Put a start anchor at key value))) ts = (ts ≡ start) ⊎ (ts ≡ at)
+Shows (Made (entry.Append j index (log.State a (states.Pending at)))) ts = ts ≡ at
 Shows (Made (entry.Append j index (log.State a (states.Committed at)))) ts = ts ≡ at
 Shows (Made (entry.Append j index (log.Resolve a key (fates.Committed at)))) ts = ts ≡ at
+Shows (Made (entry.Fated a b (fates.Committed at))) ts = ts ≡ at
+Shows (Made (entry.Fated a b (fates.Pushed at))) ts = ts ≡ at
 Shows (Made (entry.Ack t at results)) ts = ts ≡ at
 Shows (Made (entry.Fault t at state)) ts = ts ≡ at
 Shows _ ts = ⊥

@@ -1,6 +1,6 @@
 //! The laws of lawful histories. Each is the contract of a function that does nothing.
 
-ghost use Rattle.run_laws.specs.Laws.{AppliedIsWithin, AttemptStays, BeginningStays, CommitIsRecord, CommitStays, EachIsPermitted, OlderIsLawful, PutWasPermitted, ServedWasPermitted, WhatStoodHolds};
+ghost use Rattle.run_laws.specs.Staying.{AppliedIsWithin, AttemptStays, BeginningStays, CommitIsAbovePuts, CommitIsRecord, CommitStays, EachIsPermitted, OlderIsLawful, PutWasPermitted, ServedWasPermitted, WhatStoodHolds};
 
 /// What happened until some moment of a lawful history is lawful.
 pub fn older_is_lawful()
@@ -50,4 +50,9 @@ pub fn applied_is_within()
 /// What a record said of its attempt's writes is so from then on.
 pub fn what_stood_holds()
     ensures { WhatStoodHolds }
+{}
+
+/// An attempt that committed has put nothing above its commit.
+pub fn commit_is_above_puts()
+    ensures { CommitIsAbovePuts }
 {}

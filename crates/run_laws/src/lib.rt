@@ -4,6 +4,7 @@
 mod laws;
 
 pub use laws::{
-    applied_is_within, attempt_stays, beginning_stays, commit_is_record, commit_stays,
-    each_is_permitted, older_is_lawful, put_was_permitted, served_was_permitted, what_stood_holds,
+    applied_is_within, attempt_stays, beginning_stays, commit_is_above_puts, commit_is_record,
+    commit_stays, each_is_permitted, older_is_lawful, put_was_permitted, served_was_permitted,
+    what_stood_holds,
 };
