@@ -120,7 +120,7 @@ lease_begins boots x known =
       known = λ y h. ⊎_elim (λ (e : x ≡ y). subst (λ (z : Lease). z.boot ≤ boots z.holder) e known) (λ f. absurd f) h;
     }
 
-same_le : (m n : ℕ) → m ≡ n → m ≤ n
+pub same_le : (m n : ℕ) → m ≡ n → m ≤ n
 same_le m n e = omega (arith, e)
 
 begins_by_schema : (setup : Setup) (j : RangeId) (schema : Option Ts) → BeginsWith setup j schema → AreRowsAt setup schema → IsBeginning (boot setup []) (setup.beginning j)

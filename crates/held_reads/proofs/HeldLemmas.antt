@@ -147,7 +147,7 @@ module _ (setup : Setup) (sound : IsSoundSetup setup) (h : History) (keeps : Kee
   committed_seen key inside ts v below limit a made put c t among at_range at_key at_value (inr other) =
       let high : IsHigh (attempt_of h a) (puts h a) a made.ts = commit_high setup h keeps a made c in
       let low : ¬ IsBelow made.ts put.ts =
-      λ q. high.high (le_below_put put.ts made.ts (greatest_with high.attempt.read_at (puts h a)) (greatest_above_put high.attempt.read_at (puts h a) put among) q) in
+      λ q. high.high (below_le made.ts put.ts (greatest_with high.attempt.read_at (puts h a)) q (greatest_above_put high.attempt.read_at (puts h a) put among)) in
       let w : PutIn a put.ts put.key put.value (log_of setup h put.range) =
       put_in (log_of setup h put.range) a put.start put.anchor put.ts put.key put.value (put_in_log setup h a put (put_was_made h a put among)) in
       let here : PutIn a put.ts key v l =
@@ -155,9 +155,6 @@ module _ (setup : Setup) (sound : IsSoundSetup setup) (h : History) (keeps : Kee
       (subst (λ (x : List ℕ). PutIn a put.ts x put.value l) at_key (subst (λ (x : _). PutIn a put.ts put.key put.value (log_of setup h x)) at_range w)) in
       put_seen key inside ts put.ts v below limit a other (commit_recorded setup h keeps a made c ∙ ap (λ (x : Ts). Some (states.Committed x)) t)
       (subst (λ (x : Ts). ¬ IsBelow x put.ts) t low) here
-    where
-      le_below_put : (p c g : Ts) → ¬ IsBelow g p → IsBelow c p → IsBelow c g
-      le_below_put p c g n q = below_le c p g q n
 
   -- what is written below a read is seen, whatever its limit
   pub written_seen : (key : List ℕ) → InSpan s.read.span key → (ts : Ts) (v : Option (List ℕ)) → IsBelow ts s.read.at → (limit : Option ℕ) → IsWritten setup h s.range key ts v

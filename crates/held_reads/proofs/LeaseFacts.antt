@@ -11,7 +11,7 @@ use Rattle.range_log.specs.declared.entries.Entry.{Entry}
 use Rattle.range_log.specs.declared.entries.Entry.TheVariants as log
 use Rattle.range_log.specs.declared.entries.Lease.{Lease}
 use Rattle.held_reads.proofs.Basics.{same_tests}
-use Rattle.held_reads.proofs.BeginningFacts.{IsBeginning, is_beginning}
+use Rattle.held_reads.proofs.BeginningFacts.{IsBeginning, is_beginning, same_le}
 use Rattle.held_reads.proofs.LogWords.{LeaseIn, last_lease_in}
 use Rattle.held_reads.specs.KeepsReads.{KeepsReads}
 use Rattle.run_laws.specs.Appended.{IsLeased}
@@ -70,9 +70,6 @@ pub is_actor : (o : Option NodeId) (m n : NodeId) → o ≡ Some m → m ≡ n �
 is_actor o m n e q = ap (λ (y : Option NodeId). is_node_of y n) e ∙ same_tests m.0 n.0 (ap (λ (y : NodeId). y.0) q)
 
 -- no lease is of a boot that its holder hasn't reached
-same_le : (m n : ℕ) → m ≡ n → m ≤ n
-same_le m n e = omega (arith, e)
-
 known_at : (setup : Setup) (h : History) (x : Lease) (n : NodeId) → x.holder ≡ n → x.boot ≡ boot setup h n → x.boot ≤ boot setup h x.holder
 known_at setup h x n e b = same_le x.boot (boot setup h x.holder) (b ∙ ap (boot setup h) (sym e))
 

@@ -1,25 +1,25 @@
-mod AgreementLemmas
-mod AppliedFacts
-mod AttemptFacts
-mod Basics
-mod BeginningFacts
-mod CommitFacts
-mod CompleteFacts
-mod ContainsLemmas
-mod FateLemmas
-mod FedLemmas
-mod HeldLemmas
-mod IntentLemmas
-mod KeptLemmas
-mod LeaseFacts
-mod Licenses
-mod LogFacts
-mod LogWords
-mod PutFacts
-mod RecordCommits
-mod RecordFacts
-mod RefreshLemmas
-mod ServeFacts
-mod Standing
-mod TsLemmas
-mod VersionLemmas
+pub mod AgreementLemmas
+pub mod AppliedFacts
+pub mod AttemptFacts
+pub mod Basics
+pub mod BeginningFacts
+pub mod CommitFacts
+pub mod CompleteFacts
+pub mod ContainsLemmas
+pub mod FateLemmas
+pub mod FedLemmas
+pub mod HeldLemmas
+pub mod IntentLemmas
+pub mod KeptLemmas
+pub mod LeaseFacts
+pub mod Licenses
+pub mod LogFacts
+pub mod LogWords
+pub mod PutFacts
+pub mod RecordCommits
+pub mod RecordFacts
+pub mod RefreshLemmas
+pub mod ServeFacts
+pub mod Standing
+pub mod TsLemmas
+pub mod VersionLemmas

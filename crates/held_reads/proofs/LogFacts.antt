@@ -32,7 +32,7 @@ use Rattle.run_words.specs.Setup.{Setup}
 use Rattle.run_words.specs.Steps.{event_of}
 
 -- entries that aren't puts, or aren't loads, add none
-abbrev IsNoPut : Entry → Type 0
+abbrev pub IsNoPut : Entry → Type 0
 IsNoPut (log.Put b start anchor ts k v) = ⊥
 IsNoPut e = ⊤
 

@@ -1,5 +1,5 @@
 use Rattle.std.proofs.Common.{◌≡◌, ◌≢◌, ℕ, suc, ◌≤◌, Bool, true, false, cond, List, [], ◌∷◌, length, inl, inr, ⊎_elim, refl, sym, ◌∙◌, subst, arith}
-use Rattle.std.specs.Prelude.{◌⊎◌, ◌==◌, ⊤, All, Option}
+use Rattle.std.specs.Prelude.{◌⊎◌, ◌==◌, All, Option}
 use Rattle.closed_ts.specs.Targets.{at_wall}
 use Rattle.journal.specs.declared.entries.How.TheVariants as how
 use Rattle.journal.specs.declared.entries.How.{How}
@@ -20,7 +20,7 @@ use Rattle.range_log.specs.declared.entries.Entry.TheVariants as log
 use Rattle.held_reads.proofs.AppliedFacts.{applied_begins, applied_within}
 use Rattle.held_reads.proofs.Basics.{ranges_same}
 use Rattle.held_reads.proofs.CompleteFacts.{IsPassed, complete}
-use Rattle.held_reads.proofs.LogFacts.{licensed, log_begins, log_grows}
+use Rattle.held_reads.proofs.LogFacts.{IsNoPut, licensed, log_begins, log_grows}
 use Rattle.held_reads.proofs.LogWords.{IsSuffix, PutAfter, first_length, first_suffix, suffix_in_suffix}
 use Rattle.held_reads.proofs.RecordFacts.{StillHolds, fated_holds, still_holds}
 use Rattle.held_reads.proofs.TsLemmas.{below_le, below_trans, below_wall}
@@ -99,10 +99,6 @@ after_cases : (t : Bool) (range j : RangeId) (b : AttemptId) (start : Ts) (ancho
 after_cases true range j b start anchor ts k x o l a p key e (inl w) = inl (ranges_same range j (sym e), w.0, w.1, w.2)
 after_cases true range j b start anchor ts k x o l a p key e (inr w) = inr w
 after_cases false range j b start anchor ts k x o l a p key e w = inr w
-
-abbrev IsNoPut : Entry → Type 0
-IsNoPut (log.Put b start anchor ts k v) = ⊥
-IsNoPut e = ⊤
 
 skip_after : (e : Entry) (t : Bool) (o l : List Entry) (a : AttemptId) (p : Ts) (key : List ℕ) → IsNoPut e → PutAfter o a p key (cond t (e ∷ l) l) → PutAfter o a p key l
 skip_after e false o l a p key n w = w
