@@ -31,8 +31,9 @@ LawfulKeepsReads = (setup : Setup) (h : History) → IsLawful setup h → KeepsR
 -- timestamp, whatever came later.
 abbrev pub KeptReadsAreHeld : Type 0
 KeptReadsAreHeld =
-    (setup : Setup) (h : History) (s : ServedRead) (key value : List ℕ) → IsSoundSetup setup → KeepsReads setup h → WasServed setup s h
-    → InSpan s.read.span key → IsRow s.entries s.read key value ↔ IsHeld setup h s.range s.read.at key value
+    (setup : Setup) (h : History) (s : ServedRead) (key value : List ℕ) → IsSoundSetup setup → KeepsReads setup h
+    → WasServed setup s h → InSpan s.read.span key
+    → IsRow s.entries s.read key value ↔ IsHeld setup h s.range s.read.at key value
 
 -- What an attempt was served at a timestamp, and again at a later one where nothing newer was seen, has the same rows.
 abbrev pub KeptRowsStay : Type 0
@@ -51,13 +52,14 @@ IsHeldBelow setup h j ts d =
 -- Reads agree with each such database: its pairs in a span that was served at the timestamp are the rows.
 abbrev pub HeldReadsAgree : Type 0
 HeldReadsAgree =
-    (setup : Setup) (h : History) (d : PlainDatabase) (s : ServedRead) (key value : List ℕ) → IsSoundSetup setup → KeepsReads setup h
-    → IsHeldBelow setup h s.range s.read.at d → WasServed setup s h → InSpan s.read.span key
+    (setup : Setup) (h : History) (d : PlainDatabase) (s : ServedRead) (key value : List ℕ) → IsSoundSetup setup
+    → KeepsReads setup h → IsHeldBelow setup h s.range s.read.at d → WasServed setup s h → InSpan s.read.span key
     → Contains (range_pairs (layout_of setup h) d s.range) (key, value) ↔ IsRow s.entries s.read key value
 
 -- A database that is, of each read, what its range holds below its timestamp agrees with all that these reads fed.
 abbrev pub FedReadsAgree : Type 0
 FedReadsAgree =
-    (setup : Setup) (h : History) (d : PlainDatabase) (served : List ServedRead) (fed : List Fed) → IsSoundSetup setup → KeepsReads setup h
-    → ((s : ServedRead) → Contains served s → WasServed setup s h × IsHeldBelow setup h s.range s.read.at d) → AreFed served fed
-    → Agrees (layout_of setup h) d fed
+    (setup : Setup) (h : History) (d : PlainDatabase) (served : List ServedRead) (fed : List Fed) → IsSoundSetup setup
+    → KeepsReads setup h
+    → ((s : ServedRead) → Contains served s → WasServed setup s h × IsHeldBelow setup h s.range s.read.at d)
+    → AreFed served fed → Agrees (layout_of setup h) d fed

@@ -1,6 +1,7 @@
 //! The laws on reads. Each is the contract of a function that does nothing.
 
-ghost use Rattle.held_reads.specs.Laws.{FedReadsAgree, HeldReadsAgree, KeptReadsAreHeld, KeptRowsStay, LawfulKeepsReads};
+ghost use Rattle.held_reads.specs.Laws.{FedReadsAgree, HeldReadsAgree, KeptReadsAreHeld};
+ghost use Rattle.held_reads.specs.Laws.{KeptRowsStay, LawfulKeepsReads};
 ghost use Rattle.run_laws.specs.Laws.{RefreshedRowsStay, ServedIsHeld};
 
 /// A lawful history keeps reads.
