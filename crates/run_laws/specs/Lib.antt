@@ -1,3 +1,4 @@
+pub mod Ahead
 pub mod Appended
 pub mod Asks
 pub mod Beginnings

@@ -1,4 +1,4 @@
-use Rattle.std.specs.Prelude.{Option, Some, [], false, max, true, ⊤, ◌+◌, ◌<◌, ◌≡◌, ◌≤◌, ◌⊎◌}
+use Rattle.std.specs.Prelude.{Option, Some, [], false, true, ⊤, ◌+◌, ◌<◌, ◌≡◌, ◌≤◌, ◌⊎◌}
 use Rattle.journal.specs.declared.entries.JournalEntry.TheVariants as entry
 use Rattle.journal.specs.declared.entries.Shown.TheVariants as shown
 use Rattle.journal.specs.declared.events.Event.TheVariants as events
@@ -7,16 +7,14 @@ use Rattle.mr_base.specs.declared.ids.AttemptId.{AttemptId}
 use Rattle.mr_base.specs.declared.ids.MsgId.{MsgId}
 use Rattle.mr_base.specs.declared.ids.NodeId.{NodeId}
 use Rattle.mr_base.specs.declared.ids.TxnId.{TxnId}
-use Rattle.mr_base.specs.declared.messages.Fate.TheVariants as fates
 use Rattle.mr_base.specs.declared.messages.Request.{Request}
 use Rattle.mr_base.specs.declared.timestamps.Ts.{Ts}
-use Rattle.range_log.specs.declared.entries.Entry.TheVariants as log
-use Rattle.range_log.specs.declared.entries.TxnState.TheVariants as states
+use Rattle.run_laws.specs.Ahead.{AreNear}
 use Rattle.run_laws.specs.DeterminedAnswers.{HasAnswer}
 use Rattle.run_laws.specs.Messages.{IsInFlight, IsResolve}
 use Rattle.run_words.specs.Askers.{asker_of, gateway_of, txn_of}
 use Rattle.run_words.specs.Attempts.{Attempt, attempt_of}
-use Rattle.run_words.specs.Clocks.{peak, reading}
+use Rattle.run_words.specs.Clocks.{reading}
 use Rattle.run_words.specs.Happened.{Always, Happened}
 use Rattle.run_words.specs.History.{History, Item, Made}
 use Rattle.run_words.specs.Messages.{Mail, answered_by, flight, mail}
@@ -69,25 +67,6 @@ pub record IsWaiting (setup : Setup) (h : History) (t : TxnId) : Type 0 where
   pub gateway : NodeId
   pub is_gateway : gateway_of h t ≡ Some gateway
   pub ahead : (reading setup h gateway).wall < ts.wall
-
--- A timestamp of a transaction stands in an item.
-abbrev pub Shows : Item → Ts → Type 0
-Shows (Made (entry.Begin t a gateway start limit)) ts = ts ≡ start
-Shows (Made (entry.Serve a n j span at limit count by known)) ts = ts ≡ at
-Shows (Made (entry.Append j index (log.Put a start anchor at key value))) ts = (ts ≡ start) ⊎ (ts ≡ at)
-Shows (Made (entry.Append j index (log.State a (states.Pending at)))) ts = ts ≡ at
-Shows (Made (entry.Append j index (log.State a (states.Committed at)))) ts = ts ≡ at
-Shows (Made (entry.Append j index (log.Resolve a key (fates.Committed at)))) ts = ts ≡ at
-Shows (Made (entry.Fated a b (fates.Committed at))) ts = ts ≡ at
-Shows (Made (entry.Fated a b (fates.Pushed at))) ts = ts ≡ at
-Shows (Made (entry.Ack t at results)) ts = ts ≡ at
-Shows (Made (entry.Fault t at state)) ts = ts ≡ at
-Shows _ ts = ⊥
-
--- Each timestamp of a transaction is ahead of the clocks by the lead of global ranges or the offset at most.
-abbrev pub AreNear : Setup → History → Type 0
-AreNear setup h =
-    Always (λ x older. (ts : Ts) → Shows x ts → ts.wall ≤ peak setup h + max setup.settings.lead setup.settings.max_offset) h
 
 abbrev pub EndsDrained : Option Event → Type 0
 EndsDrained (Some events.Drain) = ⊤

@@ -10,13 +10,14 @@ use Rattle.mr_base.specs.declared.ids.NodeId.{NodeId}
 use Rattle.mr_base.specs.declared.ids.RangeId.{RangeId}
 use Rattle.mr_base.specs.declared.ids.TxnId.{TxnId}
 use Rattle.range_log.specs.Facts.{closed_of}
+use Rattle.run_laws.specs.Appended.{IsActing}
 use Rattle.run_laws.specs.Messages.{IsInFlight}
 use Rattle.run_words.specs.Askers.{gateway_of}
 use Rattle.run_words.specs.Clocks.{reading}
 use Rattle.run_words.specs.History.{History, Item, Made, Ran}
 use Rattle.run_words.specs.Logs.{applied, holder_of, log_of}
 use Rattle.run_words.specs.Messages.{flight}
-use Rattle.run_words.specs.Ranges.{IsAllApplied, is_global, range_of}
+use Rattle.run_words.specs.Ranges.{HasQuorum, IsAllApplied, is_global, range_of}
 use Rattle.run_words.specs.Setup.{Setup}
 use Rattle.run_words.specs.Steps.{event_of, has_ticked}
 use Rattle.run_words.specs.Transactions.{beginning, is_open}
@@ -55,11 +56,11 @@ since_line [] = []
 since_line (Ran line event ∷ h) = []
 since_line (x ∷ h) = x ∷ since_line h
 
--- A range has closed the target of its holder's clock or a later timestamp, or it says why not.
+-- A range has closed the target of its holder's clock or a later timestamp, where the holder can; or it says why not.
 abbrev pub IsCloseMade : Setup → History → RangeId → Type 0
 IsCloseMade setup h j =
     IsTrue (list_any (is_close_refusal j) (since_line h))
-    ⊎ ((n : NodeId) × (holder_of (log_of setup h j) ≡ Some n)
+    ⊎ ((n : NodeId) × (holder_of (log_of setup h j) ≡ Some n) × IsActing setup h n j × HasQuorum setup h j
     × (¬ IsBelow (closed_of (log_of setup h j)) (close_target (is_global setup h j) (reading setup h n) setup.settings)))
 
 -- All was delivered and applied.
