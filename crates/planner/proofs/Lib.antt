@@ -1,0 +1,5 @@
+pub mod CoveringLemmas
+pub mod PlaceLemmas
+pub mod PlaceOrder
+pub mod PointTests
+pub mod ServedLemmas

@@ -1,0 +1,8 @@
+//! The planner of a list of statements: what was fed, what was written, and what is read through both.
+#![tactic(auto)]
+
+mod known_spans;
+mod own_writes;
+
+pub use known_spans::KnownSpans;
+pub use own_writes::{Change, OwnWrites, Place};

@@ -1,0 +1,145 @@
+//! The writes that a list's statements made so far.
+
+ghost use Rattle.std.specs.Prelude.{◌≡◌, ◌++◌, [], IfOk, OnOk, OnErr, option_to_list};
+ghost use Rattle.std.specs.FinMap.Entries.{find};
+ghost use Rattle.std.specs.Option.{option_copied, option_map_or};
+ghost use Rattle.row_locality.specs.Pairs.{key_value};
+ghost use Rattle.sql_eval.specs.OwnWrites.{addition, last_value, place_cmp, removal, with_write, write_at, writes_of};
+ghost use Rattle.planner.specs.Kept.{with_values};
+
+use mr_base::{Bytes, CloneIn, ListOf, Memory, Pair, RangeId, Write};
+use std::alloc::Global;
+use std::collections::BTreeMap;
+use std::marker::Model;
+
+/// A key of a range.
+pub type Place = (RangeId, Bytes);
+
+/// What became of a key: its value before the first write and after the last. None: there is no such key.
+#[derive(Drop)]
+pub struct Change {
+    first: Option<Bytes>,
+    last: Option<Bytes>,
+}
+
+impl Model for Change {
+    ghost use Rattle.sql_eval.specs.OwnWrites.{FirstAndLast};
+
+    ghost Value = { FirstAndLast };
+
+    ghost view = { λ c. record { first = c.first; last = c.last } };
+}
+
+/// The keys that a list's statements wrote so far, each with its first and its last value. They are seen in
+/// the order of ranges and keys.
+#[derive(Drop)]
+pub struct OwnWrites {
+    alloc: Global,
+    places: BTreeMap<Place, Change>,
+}
+
+impl Model for OwnWrites {
+    ghost use Rattle.std.specs.Prelude.{List};
+    ghost use Rattle.sql_eval.specs.OwnWrites.{FirstAndLast, Place as PlaceOfKey};
+
+    ghost Value = { List (PlaceOfKey × FirstAndLast) };
+
+    ghost view = { λ own. own.places.entries };
+}
+
+impl OwnWrites {
+    /// No write.
+    pub fn new(alloc: Global) -> OwnWrites
+        ensures { result ≡ [] }
+    {
+        OwnWrites {
+            alloc,
+            places: BTreeMap::new(alloc),
+        }
+    }
+
+    /// A pair of a range is removed. After want of memory nothing has changed.
+    pub fn remove(&mut self, range: RangeId, pair: Pair) -> Result<(), Memory>
+        ensures removed { OnOk result (self.new ≡ with_write self.old (removal range (key_value pair))) }
+        ensures err { OnErr result (self.new ≡ self.old) }
+    {
+        let Pair { key, value } = pair;
+        self.write((range, key), Some(value), None)
+    }
+
+    /// A pair of a range is added. After want of memory nothing has changed.
+    pub fn add(&mut self, range: RangeId, pair: Pair) -> Result<(), Memory>
+        ensures added { OnOk result (self.new ≡ with_write self.old (addition range (key_value pair))) }
+        ensures err { OnErr result (self.new ≡ self.old) }
+    {
+        let Pair { key, value } = pair;
+        self.write((range, key), None, Some(value))
+    }
+
+    /// The value of a key that held this one before all of them.
+    pub fn last_value<'a>(&'a self, place: &Place, value: Option<&'a Bytes>) -> Option<&'a Bytes>
+        ensures { option_copied result ≡ last_value self.now place.now.0 place.now.1 (option_copied value.entry) }
+    {
+        match self.places.get(place) {
+            Some(change) => change.last.as_ref(),
+            None => value,
+        }
+    }
+
+    /// The keys whose last value isn't their first, each with the last, in the order of ranges and keys.
+    pub fn writes(&self, alloc: Global) -> Result<ListOf<Write>, Memory>
+        ensures { IfOk result (λ writes. writes ≡ writes_of self.now) }
+    {
+        let mut writes = ListOf::new(alloc);
+        for (place, change) in self.places.iter() {
+            push_write(alloc, &mut writes, place, change)?;
+        }
+        Ok(writes)
+    }
+
+    /// A key that holds one value from now on, and had the other before if this is its first write.
+    fn write(
+        &mut self,
+        place: Place,
+        before: Option<Bytes>,
+        after: Option<Bytes>,
+    ) -> Result<(), Memory>
+        ensures ok { OnOk result (self.new ≡ with_values place before after self.old) }
+        ensures err { OnErr result (self.new ≡ self.old) }
+    {
+        let first = self.first_value(&place, before)?;
+        self.places.insert(place, Change { first, last: after })?;
+        Ok(())
+    }
+
+    /// The value of a key before its first write, where this is what it holds before the next one.
+    fn first_value(&self, place: &Place, before: Option<Bytes>) -> Result<Option<Bytes>, Memory>
+        ensures { IfOk result (λ first. first ≡ option_map_or (λ x. x.first) (find place_cmp place.now self.now) before) }
+    {
+        match self.places.get(place) {
+            Some(change) => change.first.clone_in(self.alloc),
+            None => Ok(before),
+        }
+    }
+}
+
+/// Adds the write of a key, where its last value isn't its first.
+fn push_write(
+    alloc: Global,
+    writes: &mut ListOf<Write>,
+    place: &Place,
+    change: &Change,
+) -> Result<(), Memory>
+    ensures { OnOk result (writes.new ≡ writes.old ++ option_to_list (write_at place.now change.now)) }
+{
+    if change.first == change.last {
+        return Ok(());
+    }
+    let key = place.1.clone_in(alloc)?;
+    let value = change.last.clone_in(alloc)?;
+    writes.push(Write {
+        range: place.0,
+        key,
+        value,
+    })
+}
