@@ -104,7 +104,7 @@ sorted_all : (ps es : List KeyValue) → T (is_sorted bytes_cmp es) → T (is_so
 sorted_all [] es h = h
 sorted_all (p ∷ ps) es h = sorted_all ps (put bytes_cmp p.0 p.1 es) (is_sorted-put bytes_cmp nat_list_cmp_total p.0 p.1 es h)
 
-range_sorted : (l : Layout) (d : PlainDatabase) (range : RangeId) → T (is_sorted bytes_cmp (range_pairs l d range))
+pub range_sorted : (l : Layout) (d : PlainDatabase) (range : RangeId) → T (is_sorted bytes_cmp (range_pairs l d range))
 unfolding range_pairs
 range_sorted l d range = sorted_all (pairs_of_rows l d range) [] tt
 

@@ -1,3 +1,4 @@
+mod AgreementLemmas
 mod AppliedFacts
 mod AttemptFacts
 mod Basics
@@ -6,6 +7,7 @@ mod CommitFacts
 mod CompleteFacts
 mod ContainsLemmas
 mod FateLemmas
+mod FedLemmas
 mod HeldLemmas
 mod IntentLemmas
 mod KeptLemmas

@@ -3,6 +3,7 @@ use Rattle.std.specs.Prelude.{List, ℕ, ◌↔◌, ◌≡◌}
 use Rattle.mr_base.specs.Spans.{InSpan}
 use Rattle.mr_base.specs.Timestamps.{IsBelow}
 use Rattle.mr_base.specs.declared.ids.RangeId.{RangeId}
+use Rattle.mr_base.specs.declared.script.Fed.{Fed}
 use Rattle.mr_base.specs.declared.timestamps.Ts.{Ts}
 use Rattle.mvcc_range.specs.Answer.{IsRow}
 use Rattle.mvcc_range.specs.RefreshAnswer.{IsNewerWrite}
@@ -12,11 +13,13 @@ use Rattle.run_laws.specs.Beginnings.{IsSoundSetup}
 use Rattle.run_laws.specs.Held.{IsHeld}
 use Rattle.run_laws.specs.Lawful.{IsLawful}
 use Rattle.run_laws.specs.Laws.{refresh_of}
+use Rattle.run_laws.specs.Lists.{AreFed}
 use Rattle.run_words.specs.History.{History}
 use Rattle.run_words.specs.Ranges.{layout_of}
 use Rattle.run_words.specs.Relations.{WasServed}
 use Rattle.run_words.specs.Serving.{ServedRead}
 use Rattle.run_words.specs.Setup.{Setup}
+use Rattle.sql_eval.specs.Agreement.{Agrees}
 
 -- What follows for reads, from less than that a history is lawful.
 
@@ -51,3 +54,10 @@ HeldReadsAgree =
     (setup : Setup) (h : History) (d : PlainDatabase) (s : ServedRead) (key value : List ℕ) → IsSoundSetup setup → KeepsReads setup h
     → IsHeldBelow setup h s.range s.read.at d → WasServed setup s h → InSpan s.read.span key
     → Contains (range_pairs (layout_of setup h) d s.range) (key, value) ↔ IsRow s.entries s.read key value
+
+-- A database that is, of each read, what its range holds below its timestamp agrees with all that these reads fed.
+abbrev pub FedReadsAgree : Type 0
+FedReadsAgree =
+    (setup : Setup) (h : History) (d : PlainDatabase) (served : List ServedRead) (fed : List Fed) → IsSoundSetup setup → KeepsReads setup h
+    → ((s : ServedRead) → Contains served s → WasServed setup s h × IsHeldBelow setup h s.range s.read.at d) → AreFed served fed
+    → Agrees (layout_of setup h) d fed

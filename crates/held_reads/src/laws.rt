@@ -1,6 +1,6 @@
 //! The laws on reads. Each is the contract of a function that does nothing.
 
-ghost use Rattle.held_reads.specs.Laws.{HeldReadsAgree, KeptReadsAreHeld, KeptRowsStay, LawfulKeepsReads};
+ghost use Rattle.held_reads.specs.Laws.{FedReadsAgree, HeldReadsAgree, KeptReadsAreHeld, KeptRowsStay, LawfulKeepsReads};
 ghost use Rattle.run_laws.specs.Laws.{RefreshedRowsStay, ServedIsHeld};
 
 /// A lawful history keeps reads.
@@ -31,4 +31,9 @@ pub fn refreshed_rows_stay()
 /// What a read was served agrees with each database that is what its range holds below its timestamp.
 pub fn held_reads_agree()
     ensures { HeldReadsAgree }
+{}
+
+/// A database that is what ranges hold below the timestamps of reads agrees with all that was fed of these reads.
+pub fn fed_reads_agree()
+    ensures { FedReadsAgree }
 {}

@@ -4,6 +4,6 @@
 mod laws;
 
 pub use laws::{
-    held_reads_agree, kept_reads_are_held, kept_rows_stay, lawful_keeps_reads, refreshed_rows_stay,
-    served_is_held,
+    fed_reads_agree, held_reads_agree, kept_reads_are_held, kept_rows_stay, lawful_keeps_reads,
+    refreshed_rows_stay, served_is_held,
 };
