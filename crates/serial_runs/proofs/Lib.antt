@@ -1,0 +1,10 @@
+mod DecidedLists
+mod Decisions
+mod Effects
+mod LastAttempts
+mod Numbers
+mod Once
+mod Owners
+mod Places
+mod Settings
+mod TsOrder
