@@ -42,7 +42,7 @@ decided_at setup h d l w =
     let g : (a : AttemptId) × IsDecision setup f.0 f.1 d a = deciding setup f.0 f.1 d f.4 f.5 f.3 in
     record { item = f.0; older = f.1; place = f.2; decides = f.3; permitted = f.4; lawful = f.5; attempt = g.0; decision = g.1 }
 
-older_of : (x : Item) (older h : History) → IsPlace (x ∷ older) h → IsPlace older h
+pub older_of : (x : Item) (older h : History) → IsPlace (x ∷ older) h → IsPlace older h
 older_of x older [] e = absurd (cc e)
 older_of x older (y ∷ h) (inl e) = inr (rest older h (by_tail e))
   where

@@ -3,4 +3,4 @@
 
 mod laws;
 
-pub use laws::decided_are_ordered;
+pub use laws::{decided_are_ordered, lawful_is_serial};
