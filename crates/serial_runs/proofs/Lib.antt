@@ -1,5 +1,6 @@
 mod Committed
 mod DecidedLists
+mod DecidedReads
 mod Decisions
 mod Effects
 mod Equal

@@ -16,6 +16,7 @@ use Rattle.range_log.specs.declared.entries.RetryCause.TheVariants as causes
 use Rattle.range_log.specs.declared.entries.TxnState.TheVariants as states
 use Rattle.range_rules.specs.Puts.{just_above}
 use Rattle.run_laws.proofs.AttemptLemmas.{attempt_stays, number_of}
+use Rattle.run_laws.specs.Determined.{IsAckAt}
 use Rattle.run_laws.specs.Laid.{IsPutLaid}
 use Rattle.run_laws.specs.Lawful.{IsLawful}
 use Rattle.run_words.proofs.MemberLemmas.{contains_cases, contains_first, contains_later, contains_none, picked_cases}
@@ -120,3 +121,8 @@ commit_owned setup (Made (entry.Append range index (log.State b (states.Committe
     (λ (q : ((b.0 == a.0) ≡ _) × _). commit_owned setup h l.1 a made q.1)
     (cond_cases (b.0 == a.0) _ _ (Some made) e)
 commit_owned setup (x ∷ h) l a made e = commit_owned setup h l.1 a made e
+
+-- and where it is acknowledged
+pub ack_owned : (setup : Setup) (g : History) → IsLawful setup g → (t : TxnId) (a : AttemptId) (ts : Ts) → IsAckAt g t a ts → ts.owner ≡ a.0
+ack_owned setup g l t a ts (inl at) = sym (ap (λ (u : Ts). u.owner) at.3) ∙ commit_owned setup g l a at.0 at.2
+ack_owned setup g l t a ts (inr at) = sym (ap (λ (u : Ts). u.owner) at.1.2) ∙ (attempt_owned setup g l a at.1.0 at.1.1).owned

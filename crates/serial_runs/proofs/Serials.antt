@@ -17,7 +17,7 @@ use Rattle.row_locality.specs.Plain.{IsValid, PlainDatabase, range_pairs}
 use Rattle.run_laws.proofs.LawfulLemmas.{happened_so}
 use Rattle.run_laws.specs.Beginnings.{IsSoundSetup}
 use Rattle.run_laws.specs.Decided.{AreDecided, Decided, WasDecided, executed_on, replay_below, those_below}
-use Rattle.run_laws.specs.Determined.{IsAckAt, IsAcknowledged, IsFaulted}
+use Rattle.run_laws.specs.Determined.{IsAcknowledged, IsFaulted}
 use Rattle.run_laws.specs.DeterminedAnswers.{Executed, GivesFault, GivesResults, IsDetermined}
 use Rattle.run_laws.specs.Held.{IsHeld}
 use Rattle.run_laws.specs.Lawful.{IsLawful, IsPermitted}
@@ -35,7 +35,7 @@ use Rattle.serial_runs.proofs.DecidedLists.{Falls, IsFalling, IsListed, are_deci
 use Rattle.serial_runs.proofs.Effects.{determined_on}
 use Rattle.serial_runs.proofs.Heard.{contained}
 use Rattle.serial_runs.proofs.LastAttempts.{last_of}
-use Rattle.serial_runs.proofs.Owners.{attempt_owned, commit_owned}
+use Rattle.serial_runs.proofs.Owners.{ack_owned, attempt_owned}
 use Rattle.serial_runs.proofs.Places.{older_of}
 use Rattle.serial_runs.proofs.Replays.{Covers, IsReplayed, heard_agrees, held_below, replayed}
 use Rattle.serial_runs.proofs.Settings.{one_setting, setting_stays}
@@ -81,15 +81,11 @@ module _ (setup : Setup) (sound : IsSoundSetup setup) (h : History) (lawful : Is
       (determined_on setup older a ts P det det.attempt.txn det.setting det.is_setting refl (replay_below setup ds ts) (valid_below ts)
       (heard_agrees setup sound h lawful keeps feds (replay_below setup ds ts) older a ts p o pos (holds_below ts) det.fed det.fed_is))
 
-  ack_owner : (g : History) → IsLawful setup g → (t : TxnId) (a : AttemptId) (ts : Ts) → IsAckAt g t a ts → ts.owner ≡ a.0
-  ack_owner g l t a ts (inl at) = sym (ap (λ (u : Ts). u.owner) at.3) ∙ commit_owned setup g l a at.0 at.2
-  ack_owner g l t a ts (inr at) = sym (ap (λ (u : Ts). u.owner) at.1.2) ∙ (attempt_owned setup g l a at.1.0 at.1.1).owned
-
   acknowledged : (g : History) → IsPlace g h → IsLawful setup g → (t : TxnId) (ts : Ts) (results : List StatementResult) (s : Setting) → IsAcknowledged setup g t ts results → IsSettingOf setup h t s
       → Answers results (executed_on s (replay_below setup ds ts))
   acknowledged g p l t ts results s ack is =
       answers_by setup g ack.attempt results (replay_below setup ds ts) (executed_on s (replay_below setup ds ts))
-      (on_replay g ack.attempt ts (GivesResults setup g ack.attempt results) ack.answer p (ack_owner g l t ack.attempt ts ack.at)
+      (on_replay g ack.attempt ts (GivesResults setup g ack.attempt results) ack.answer p (ack_owned setup g l t ack.attempt ts ack.at)
       (attempt_owned setup g l ack.attempt ack.answer.attempt ack.answer.is_attempt).positive t s
       ((last_of setup g l t ack.attempt ack.last).of_it ack.answer.attempt ack.answer.is_attempt) is)
 

@@ -3,4 +3,4 @@
 
 mod laws;
 
-pub use laws::{decided_are_ordered, lawful_is_serial};
+pub use laws::{decided_are_ordered, decided_reads_agree, lawful_is_serial};
