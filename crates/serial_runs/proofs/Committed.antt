@@ -1,5 +1,5 @@
-use Rattle.std.proofs.Common.{◌≡◌, ◌≢◌, ℕ, ◌≤◌, List, [], ◌∷◌, inl, inr, ⊎_elim, refl, sym, ap, ◌∙◌, subst}
-use Rattle.std.specs.Prelude.{◌==◌, Option, Some}
+use Rattle.std.proofs.Common.{◌≡◌, ◌≢◌, ℕ, List, [], ◌∷◌, inl, inr, ⊎_elim, refl, sym, ap, ◌∙◌, subst}
+use Rattle.std.specs.Prelude.{◌==◌, Some}
 use Rattle.std.specs.List.{Contains}
 use Rattle.journal.specs.declared.entries.JournalEntry.TheVariants as entry
 use Rattle.mr_base.specs.Timestamps.{IsBelow}
@@ -16,7 +16,7 @@ use Rattle.run_laws.specs.Decided.{Decided, Decides, WasDecided}
 use Rattle.run_laws.specs.Lawful.{IsLawful, IsPermitted}
 use Rattle.run_laws.specs.Records.{WasAnswered}
 use Rattle.run_words.proofs.HappenedLemmas.{place_happened}
-use Rattle.run_words.specs.Attempts.{Attempt, attempt_of}
+use Rattle.run_words.specs.Attempts.{Attempt}
 use Rattle.run_words.specs.Happened.{IsPlace}
 use Rattle.run_words.specs.History.{History, Item, Made}
 use Rattle.run_words.specs.Messages.{handled}

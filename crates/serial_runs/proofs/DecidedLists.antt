@@ -3,7 +3,7 @@ use Rattle.mr_base.specs.declared.results.StatementResult.{StatementResult}
 use Rattle.serial_runs.proofs.Once.{once}
 use Rattle.serial_runs.proofs.Decisions.{deciding}
 use Rattle.run_laws.proofs.LawfulLemmas.{happened_so}
-use Rattle.std.specs.Prelude.{◌⊎◌, AllPairs, Some}
+use Rattle.std.specs.Prelude.{◌⊎◌, AllPairs}
 use Rattle.std.specs.List.{AllByRecursion, Contains}
 use Rattle.answer_laws.proofs.Members.{Has, each_has, has_itself}
 use Rattle.answer_laws.proofs.Pairwise.{EachTwo, all_pairs}
@@ -15,7 +15,7 @@ use Rattle.mr_base.specs.declared.ids.TxnId.{TxnId}
 use Rattle.mr_base.specs.declared.timestamps.Ts.{Ts}
 use Rattle.range_log.specs.declared.entries.Entry.TheVariants as log
 use Rattle.range_log.specs.declared.entries.TxnState.TheVariants as states
-use Rattle.run_laws.specs.Decided.{AreDecided, Decided, Decides, HasNoPut, WasDecided}
+use Rattle.run_laws.specs.Decided.{AreDecided, Decided, Decides, WasDecided}
 use Rattle.run_laws.specs.Determined.{IsAckAt, IsAcknowledged}
 use Rattle.run_laws.specs.Lawful.{IsLawful, IsPermitted}
 use Rattle.run_laws.specs.Lists.{IsSettingOf}
@@ -23,7 +23,6 @@ use Rattle.run_words.proofs.MemberLemmas.{contains_first, contains_later}
 use Rattle.run_words.specs.History.{History, Item, Made}
 use Rattle.run_words.specs.Puts.{puts}
 use Rattle.run_words.specs.Setup.{Setup}
-use Rattle.run_words.specs.Transactions.{last_attempt}
 use Rattle.serial_runs.proofs.Effects.{txn_known}
 use Rattle.serial_runs.proofs.LastAttempts.{last_of}
 use Rattle.serial_runs.proofs.Numbers.{some_same}

@@ -1,5 +1,5 @@
 use Rattle.std.proofs.Common.{◌≡◌, ℕ, ◌≤◌, ◌∷◌, List, sym, ap, ◌∙◌, subst}
-use Rattle.std.specs.Prelude.{◌↔◌, Some}
+use Rattle.std.specs.Prelude.{◌↔◌}
 use Rattle.std.specs.List.{Contains}
 use Rattle.held_reads.specs.KeepsReads.{KeepsReads}
 use Rattle.held_reads.specs.Laws.{FedReadsAgree, HeldReadsAgree, IsHeldBelow}
@@ -41,7 +41,7 @@ IsOwner a ts = (ts.owner ≡ a.0) × (1 ≤ a.0)
 owner_at : (setup : Setup) (t : TxnId) (a : AttemptId) (ts : Ts) (x : Item) (g : History) → DecidesAt t a ts x g → IsPermitted setup g x → IsLawful setup g → IsOwner a ts
 owner_at setup t a ts (Made (entry.Append j index (log.State b (states.Committed c)))) g e p l = (
   sym (ap (λ (u : Ts). u.owner) e.2) ∙ (ap (λ (u : Ts). u.owner) p.records.by.at_is
-  ∙ (greatest_owned setup g l b p.records.by.attempt p.records.by.is_attempt ∙ ap (λ (y : AttemptId). y.0) e.0)),
+      ∙ (greatest_owned setup g l b p.records.by.attempt p.records.by.is_attempt ∙ ap (λ (y : AttemptId). y.0) e.0)),
   subst (λ (y : AttemptId). 1 ≤ y.0) e.0 (attempt_owned setup g l b p.records.by.attempt p.records.by.is_attempt).positive,
 )
 owner_at setup t a ts (Made (entry.Ack u at results)) g e p l =
@@ -52,7 +52,7 @@ owner_at setup t a ts (Made (entry.Ack u at results)) g e p l =
 owner_at setup t a ts (Made (entry.Fault u at state)) g e p l =
     let same : p.determined.attempt ≡ a = some_same (sym p.determined.last ∙ (ap (λ (v : TxnId). last_attempt g v) e.0 ∙ e.2)) in (
       sym (ap (λ (v : Ts). v.owner) e.1) ∙ (sym (ap (λ (v : Ts). v.owner) p.determined.at.2)
-      ∙ ((attempt_owned setup g l p.determined.attempt p.determined.at.0 p.determined.at.1).owned ∙ ap (λ (y : AttemptId). y.0) same)),
+          ∙ ((attempt_owned setup g l p.determined.attempt p.determined.at.0 p.determined.at.1).owned ∙ ap (λ (y : AttemptId). y.0) same)),
       subst (λ (y : AttemptId). 1 ≤ y.0) same (attempt_owned setup g l p.determined.attempt p.determined.at.0 p.determined.at.1).positive,
     )
 owner_at setup t a ts x g e p l = absurd e
@@ -68,5 +68,5 @@ decided_reads setup h ds t a ts s key value keeps feds agree sound lawful are de
     let good : IsGood setup s = was_good setup h s lawful was in
     let part : IsInPart setup ts = λ changed q. above_since setup sound changed q ts a owner.0 owner.1 (subst (λ (u : Ts). ¬ IsBelow u changed) at (good.since changed q)) in
     let held : IsHeldBelow setup h s.range ts (replay_below setup ds ts) =
-        held_below setup sound h lawful keeps feds (replay_below setup ds ts) ts (holds_below setup sound h lawful keeps feds ds are ts part) s.range good.live in
+    held_below setup sound h lawful keeps feds (replay_below setup ds ts) ts (holds_below setup sound h lawful keeps feds ds are ts part) s.range good.live in
     agree setup h (replay_below setup ds ts) s key value sound keeps (subst (λ (u : Ts). IsHeldBelow setup h s.range u (replay_below setup ds ts)) (sym at) held) was inside

@@ -1,5 +1,5 @@
-use Rattle.std.proofs.Common.{◌≡◌, ◌≢◌, ℕ, ◌≤◌, List, [], ◌∷◌, map, inl, inr, refl, sym, ap, ◌∙◌, subst}
-use Rattle.std.specs.Prelude.{◌⊎◌, true, Option, Some, option_map}
+use Rattle.std.proofs.Common.{◌≡◌, ℕ, ◌≤◌, List, [], ◌∷◌, map, inl, inr, sym, ap, ◌∙◌, subst}
+use Rattle.std.specs.Prelude.{◌⊎◌, true, Some}
 use Rattle.journal.specs.declared.entries.JournalEntry.TheVariants as entry
 use Rattle.mr_base.specs.declared.ids.AttemptId.{AttemptId}
 use Rattle.mr_base.specs.declared.ids.RangeId.{RangeId}
@@ -17,9 +17,9 @@ use Rattle.run_laws.specs.Lawful.{IsLawful, IsPermitted}
 use Rattle.run_laws.specs.Lists.{IsSettingOf}
 use Rattle.run_laws.specs.Records.{IsCommit, WasAnswered}
 use Rattle.run_words.specs.Askers.{txn_of}
-use Rattle.run_words.specs.Attempts.{Attempt, attempt_of, greatest_put}
+use Rattle.run_words.specs.Attempts.{Attempt, attempt_of}
 use Rattle.run_words.specs.History.{History, Item, Made}
-use Rattle.run_words.specs.Puts.{CommitMade, puts, record_of}
+use Rattle.run_words.specs.Puts.{puts, record_of}
 use Rattle.run_words.specs.Setup.{Setup}
 use Rattle.run_words.specs.Transactions.{is_open, last_attempt}
 use Rattle.serial_runs.proofs.Effects.{IsEffect, answer_effect, commit_effect, fault_effect, txn_known, txn_same}

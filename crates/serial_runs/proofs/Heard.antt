@@ -1,4 +1,4 @@
-use Rattle.std.proofs.Common.{◌≡◌, ℕ, ◌≤◌, Bool, true, false, List, [], ◌∷◌, inl, inr, refl, sym, ap, ◌∙◌, subst}
+use Rattle.std.proofs.Common.{◌≡◌, Bool, true, false, List, [], ◌∷◌, inl, inr, refl, sym, ◌∙◌, subst}
 use Rattle.std.specs.Prelude.{◌&&◌, ◌==◌, IsSome, Option, Some, None}
 use Rattle.std.specs.List.{Contains}
 use Rattle.std.specs.Option.{option_map_or}
@@ -17,7 +17,6 @@ use Rattle.run_laws.specs.Served.{IsSinceSchema}
 use Rattle.run_words.proofs.AttemptLemmas.{serve_was_served}
 use Rattle.run_words.proofs.HappenedLemmas.{happened_since}
 use Rattle.run_words.proofs.MemberLemmas.{contains_first, contains_later, contains_none}
-use Rattle.run_words.specs.Clocks.{schema}
 use Rattle.run_words.specs.Happened.{IsPlace}
 use Rattle.run_words.specs.History.{History, Item, Made}
 use Rattle.run_words.specs.Ranges.{range_of}

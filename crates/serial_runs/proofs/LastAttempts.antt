@@ -1,4 +1,4 @@
-use Rattle.std.proofs.Common.{◌≡◌, ℕ, ◌≤◌, ◌<◌, ◌+◌, cond, [], ◌∷◌, ⊎_elim, refl, sym, ap, ◌∙◌, arith, option_map, option_and_then}
+use Rattle.std.proofs.Common.{◌≡◌, ℕ, ◌≤◌, ◌<◌, ◌+◌, cond, [], ◌∷◌, ⊎_elim, sym, ap, ◌∙◌, arith, option_map, option_and_then}
 use Rattle.std.specs.Prelude.{◌==◌, Option, Some, None}
 use Rattle.journal.specs.declared.entries.JournalEntry.TheVariants as entry
 use Rattle.mr_base.specs.declared.ids.AttemptId.{AttemptId}

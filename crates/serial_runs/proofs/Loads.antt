@@ -1,4 +1,4 @@
-use Rattle.std.proofs.Common.{◌≡◌, ℕ, Bool, true, false, cond, List, [], ◌∷◌, ◌++◌, map, reverse, inl, inr, ⊎_elim, refl, sym, ap, ◌∙◌, subst}
+use Rattle.std.proofs.Common.{◌≡◌, ℕ, Bool, true, false, cond, List, [], ◌∷◌, ◌++◌, map, reverse, inl, inr, ⊎_elim, refl, sym, ap, subst}
 use mathlib.Core.List.{reverse_aux}
 use Rattle.std.specs.Prelude.{◌⊎◌, ◌==◌, IsSome, Option, Some, None}
 use Rattle.std.specs.List.{Contains}

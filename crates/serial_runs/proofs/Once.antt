@@ -4,14 +4,12 @@ use Rattle.answer_laws.proofs.MoreMembers.{mapped_some}
 use Rattle.journal.specs.declared.entries.JournalEntry.TheVariants as entry
 use Rattle.mr_base.specs.declared.ids.AttemptId.{AttemptId}
 use Rattle.mr_base.specs.declared.ids.TxnId.{TxnId}
-use Rattle.range_log.specs.declared.entries.Entry.TheVariants as log
 use Rattle.range_log.specs.declared.entries.TxnState.{TxnState}
 use Rattle.range_log.specs.declared.entries.TxnState.TheVariants as states
 use Rattle.range_rules.specs.Records.{Goes}
 use Rattle.run_laws.proofs.AttemptLemmas.{attempt_stays, beginning_stays}
 use Rattle.run_laws.proofs.CommitLemmas.{commit_is_record, commit_stays}
 use Rattle.run_laws.specs.Decided.{Decided}
-use Rattle.run_laws.specs.DeterminedAnswers.{IsDetermined}
 use Rattle.run_laws.specs.Lawful.{IsLawful}
 use Rattle.run_laws.specs.Lists.{IsSettingOf}
 use Rattle.run_laws.specs.Records.{WasAnswered}

@@ -15,11 +15,10 @@ use Rattle.range_log.specs.declared.entries.RetryCause.{RetryCause}
 use Rattle.range_log.specs.declared.entries.RetryCause.TheVariants as causes
 use Rattle.range_log.specs.declared.entries.TxnState.TheVariants as states
 use Rattle.range_rules.specs.Puts.{just_above}
-use Rattle.run_laws.proofs.AttemptLemmas.{attempt_stays, number_of}
 use Rattle.run_laws.specs.Determined.{IsAckAt}
 use Rattle.run_laws.specs.Laid.{IsPutLaid}
 use Rattle.run_laws.specs.Lawful.{IsLawful}
-use Rattle.run_words.proofs.MemberLemmas.{contains_cases, contains_first, contains_later, contains_none, picked_cases}
+use Rattle.run_words.proofs.MemberLemmas.{contains_first, contains_later, contains_none, picked_cases}
 use Rattle.run_words.specs.Attempts.{Attempt, attempt_of, first_read, greatest_put, next_read, retried}
 use Rattle.run_words.specs.History.{History, Made}
 use Rattle.run_words.specs.Puts.{CommitMade, PutMade, commit, greatest_with, puts}

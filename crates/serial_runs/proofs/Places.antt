@@ -1,6 +1,6 @@
-use Rattle.std.proofs.Common.{◌≡◌, List, [], ◌∷◌, inl, inr, refl, sym, ap, ◌∙◌, subst}
+use Rattle.std.proofs.Common.{◌≡◌, [], ◌∷◌, inl, inr, refl, sym, ap, ◌∙◌, subst}
 use Rattle.run_laws.specs.Lists.{IsSettingOf}
-use Rattle.std.specs.Prelude.{◌⊎◌, Option, Some, option_map}
+use Rattle.std.specs.Prelude.{Option, Some, option_map}
 use Rattle.answer_laws.proofs.MoreMembers.{mapped_some}
 use Rattle.journal.specs.declared.entries.JournalEntry.TheVariants as entry
 use Rattle.mr_base.specs.declared.ids.AttemptId.{AttemptId}
@@ -12,13 +12,11 @@ use Rattle.run_laws.proofs.AttemptLemmas.{attempt_stays}
 use Rattle.run_laws.proofs.LawfulLemmas.{happened_so}
 use Rattle.run_laws.specs.Decided.{Decided, Decides, WasDecided}
 use Rattle.run_laws.specs.Lawful.{IsLawful, IsPermitted}
-use Rattle.run_words.proofs.HappenedLemmas.{place_of_place}
 use Rattle.run_words.specs.Askers.{txn_of}
 use Rattle.run_words.specs.Attempts.{Attempt, attempt_of}
-use Rattle.run_words.specs.Happened.{Happened, IsPlace}
+use Rattle.run_words.specs.Happened.{IsPlace}
 use Rattle.run_words.specs.History.{History, Item, Made}
 use Rattle.run_words.specs.Setup.{Setup}
-use Rattle.sql_eval.specs.Evaluation.{Setting}
 use Rattle.serial_runs.proofs.Decisions.{IsDecision, deciding}
 use Rattle.serial_runs.proofs.Numbers.{by_number, some_same}
 use Rattle.serial_runs.proofs.Once.{once}

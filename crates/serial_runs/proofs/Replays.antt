@@ -1,5 +1,5 @@
 use Rattle.std.proofs.Common.{◌≡◌, ◌≢◌, ℕ, ◌≤◌, List, [], ◌∷◌, map, inl, inr, refl, sym, ap, ◌∙◌, subst}
-use Rattle.std.specs.Prelude.{◌⊎◌, ◌↔◌, IsSome, Option, Some, Result, Ok, Err}
+use Rattle.std.specs.Prelude.{◌⊎◌, IsSome, Option, Some, Ok, Err}
 use Rattle.std.specs.List.{Contains}
 use Rattle.answer_laws.proofs.ExecutedLists.{exec_keeps}
 use Rattle.answer_laws.proofs.Members.{Has, each_has, has_itself}
@@ -17,7 +17,7 @@ use Rattle.row_locality.specs.Plain.{IsValid, Layout, PlainDatabase, range_pairs
 use Rattle.run_laws.specs.Beginnings.{IsSoundSetup}
 use Rattle.run_laws.specs.Decided.{Decided, WasDecided, after_list, executed_on, replay}
 use Rattle.run_laws.specs.DeterminedAnswers.{Executed, heard_at, write_of}
-use Rattle.run_laws.specs.Held.{IsHeld, IsWritten}
+use Rattle.run_laws.specs.Held.{IsWritten}
 use Rattle.run_laws.specs.Lawful.{IsLawful}
 use Rattle.run_laws.specs.Lists.{AreFed}
 use Rattle.run_laws.specs.Records.{WasAnswered}

@@ -1,6 +1,5 @@
-use Rattle.std.proofs.Common.{◌≡◌, ℕ, ◌≤◌, List, [], ◌∷◌, inl, inr, refl, sym, ap, ◌∙◌, subst}
-use Rattle.std.specs.Prelude.{◌⊎◌, ◌↔◌, AllPairs, IsSome, Option, Some, Result, Ok, Err, true}
-use Rattle.std.specs.List.{Contains}
+use Rattle.std.proofs.Common.{◌≡◌, ◌≤◌, List, ◌∷◌, refl, sym, ap, ◌∙◌, subst}
+use Rattle.std.specs.Prelude.{Ok, Err, true}
 use Rattle.answer_laws.proofs.Members.{Has, filter_has, has_filter, has_itself}
 use Rattle.answer_laws.proofs.Pairwise.{each_two, two_filter}
 use Rattle.held_reads.specs.KeepsReads.{KeepsReads}
@@ -8,30 +7,25 @@ use Rattle.held_reads.specs.Laws.{FedReadsAgree}
 use Rattle.journal.specs.declared.entries.JournalEntry.TheVariants as entry
 use Rattle.mr_base.specs.Timestamps.{IsBelow, ts_lt}
 use Rattle.mr_base.specs.declared.ids.AttemptId.{AttemptId}
-use Rattle.mr_base.specs.declared.ids.RangeId.{RangeId}
 use Rattle.mr_base.specs.declared.ids.TxnId.{TxnId}
 use Rattle.mr_base.specs.declared.results.StatementResult.{StatementResult}
 use Rattle.mr_base.specs.declared.states.SqlState.{SqlState}
 use Rattle.mr_base.specs.declared.timestamps.Ts.{Ts}
-use Rattle.row_locality.specs.Plain.{IsValid, PlainDatabase, range_pairs}
+use Rattle.row_locality.specs.Plain.{IsValid, PlainDatabase}
 use Rattle.run_laws.proofs.LawfulLemmas.{happened_so}
 use Rattle.run_laws.specs.Beginnings.{IsSoundSetup}
 use Rattle.run_laws.specs.Decided.{AreDecided, Decided, WasDecided, executed_on, replay_below, those_below}
 use Rattle.run_laws.specs.Determined.{IsAcknowledged, IsFaulted}
 use Rattle.run_laws.specs.DeterminedAnswers.{Executed, GivesFault, GivesResults, IsDetermined}
-use Rattle.run_laws.specs.Held.{IsHeld}
 use Rattle.run_laws.specs.Lawful.{IsLawful, IsPermitted}
 use Rattle.run_laws.specs.Lists.{IsSettingOf}
 use Rattle.run_laws.specs.Serial.{Answers, HasFaulted, IsAckOf, IsFaultOf, IsInPart, IsSerial, WasAcknowledged}
-use Rattle.run_words.specs.Attempts.{Attempt, attempt_of}
 use Rattle.run_words.specs.Happened.{IsPlace}
 use Rattle.run_words.specs.History.{History, Item, Made}
-use Rattle.run_words.specs.Puts.{CommitMade, commit}
-use Rattle.run_words.specs.Ranges.{layout_of, range_of}
 use Rattle.run_words.specs.Setup.{Setup}
 use Rattle.sql_eval.specs.Evaluation.{Setting}
 use Rattle.serial_runs.proofs.Committed.{commit_decides}
-use Rattle.serial_runs.proofs.DecidedLists.{Falls, IsFalling, IsListed, are_decided, decided_once, listed}
+use Rattle.serial_runs.proofs.DecidedLists.{Falls, IsListed, are_decided, decided_once, listed}
 use Rattle.serial_runs.proofs.Effects.{determined_on}
 use Rattle.serial_runs.proofs.Heard.{contained}
 use Rattle.serial_runs.proofs.LastAttempts.{last_of}

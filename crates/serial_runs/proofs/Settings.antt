@@ -1,4 +1,4 @@
-use Rattle.std.proofs.Common.{◌≡◌, ℕ, Bool, true, false, cond, List, inl, inr, refl, sym, ap, ◌∙◌, subst}
+use Rattle.std.proofs.Common.{◌≡◌, ℕ, Bool, true, false, cond, List, inl, inr, sym, ap, ◌∙◌, subst}
 use Rattle.std.specs.Prelude.{◌&&◌, ◌==◌, not, nat_lt, length, Result, Ok, Err, All}
 use Rattle.std.specs.List.{list_all}
 use Rattle.mr_base.specs.declared.ids.TxnId.{TxnId}
@@ -8,10 +8,9 @@ use Rattle.mr_base.specs.declared.states.SqlState.TheVariants.{S0A000, S25006, S
 use Rattle.region_sql.proofs.GoodForms.{row_statements-good}
 use Rattle.region_sql.proofs.TextForms.{texts_of_list}
 use Rattle.region_sql.proofs.Texts.{one_value}
-use Rattle.region_sql.specs.Grammar.{IsListText, row_statements}
+use Rattle.region_sql.specs.Grammar.{row_statements}
 use Rattle.region_sql.specs.TextLiterals.{TextsAreUtf8}
 use Rattle.region_sql.specs.declared.row_statements.RowStatement.{RowStatement}
-use Rattle.row_locality.specs.Plain.{Layout}
 use Rattle.run_laws.proofs.AttemptLemmas.{beginning_stays}
 use Rattle.run_laws.specs.Lawful.{IsLawful}
 use Rattle.run_laws.specs.Lists.{IsSettingOf, region_of_node}

@@ -1,4 +1,4 @@
-use Rattle.std.proofs.Common.{◌≡◌, ◌≢◌, ℕ, ◌≤◌, Bool, true, false, cond, List, [], ◌∷◌, ◌++◌, map, reverse, inl, inr, ⊎_elim, refl, sym, ap, ◌∙◌, subst, arith}
+use Rattle.std.proofs.Common.{◌≡◌, ℕ, ◌≤◌, true, List, [], ◌∷◌, ◌++◌, map, reverse, inl, inr, ⊎_elim, refl, sym, ap, ◌∙◌, subst, arith}
 use Rattle.std.specs.Prelude.{◌⊎◌, ◌==◌, IsSome, Option, Some, None, unwrap_or}
 use Rattle.std.specs.List.{Contains}
 use Rattle.answer_laws.proofs.Members.{Has, has_itself}
@@ -22,7 +22,7 @@ use Rattle.run_laws.specs.Appended.{IsLeased}
 use Rattle.run_laws.specs.Beginnings.{AreRowsAt, BeginsWith, IsSoundSetup, load_of}
 use Rattle.run_laws.specs.Lawful.{IsLawful, IsPermitted}
 use Rattle.run_words.proofs.AttemptLemmas.{put_was_made}
-use Rattle.run_words.proofs.MemberLemmas.{contains_first, contains_later, contains_none}
+use Rattle.run_words.proofs.MemberLemmas.{contains_first, contains_later}
 use Rattle.run_words.specs.Clocks.{schema}
 use Rattle.run_words.specs.Happened.{IsPlace}
 use Rattle.run_words.specs.History.{History, Item, Made}

@@ -1,4 +1,4 @@
-use Rattle.std.proofs.Common.{◌≡◌, ◌≢◌, ℕ, List, [], ◌∷◌, map, inl, inr, ⊎_elim, refl, sym, ap, ◌∙◌, subst}
+use Rattle.std.proofs.Common.{◌≡◌, ◌≢◌, ℕ, List, [], map, inl, inr, refl, sym, ◌∙◌, subst}
 use Rattle.std.specs.Prelude.{◌⊎◌, ◌↔◌, IsSome, Option, Some, None}
 use Rattle.std.specs.List.{Contains}
 use Rattle.std.specs.Cmp.Lexicographic.{nat_list_cmp_total}
@@ -13,8 +13,7 @@ use Rattle.mr_base.specs.declared.ids.AttemptId.{AttemptId}
 use Rattle.mr_base.specs.declared.ids.RangeId.{RangeId}
 use Rattle.mr_base.specs.declared.spans.Write.{Write}
 use Rattle.mr_base.specs.declared.timestamps.Ts.{Ts}
-use Rattle.range_log.specs.declared.entries.Entry.TheVariants as log
-use Rattle.row_locality.specs.Pairs.{KeyValue, bytes_cmp}
+use Rattle.row_locality.specs.Pairs.{bytes_cmp}
 use Rattle.row_locality.specs.Plain.{PlainDatabase, range_pairs}
 use Rattle.run_laws.specs.Beginnings.{AreRowsAt, IsSoundSetup}
 use Rattle.run_laws.specs.DeterminedAnswers.{write_of}
@@ -23,7 +22,6 @@ use Rattle.run_laws.specs.Lawful.{IsLawful}
 use Rattle.run_laws.specs.Serial.{IsInPart}
 use Rattle.run_words.proofs.MemberLemmas.{contains_none}
 use Rattle.run_words.specs.History.{History}
-use Rattle.run_words.specs.Logs.{log_of}
 use Rattle.run_words.specs.Puts.{CommitMade, PutMade, commit}
 use Rattle.run_words.specs.Ranges.{range_of}
 use Rattle.run_words.specs.Setup.{Setup}

@@ -2,6 +2,7 @@
 
 ghost use Rattle.run_laws.specs.Laws.{DecidedReadsAgree, LawfulIsSerial};
 ghost use Rattle.serial_runs.specs.Laws.{DecidedAreOrdered};
+
 use held_reads::{fed_reads_agree, held_reads_agree, lawful_keeps_reads};
 
 /// The decided transactions of a lawful history stand in one order, and each is decided once.
