@@ -1,6 +1,6 @@
 -- The numbers that are kept of what was fed, as more is fed.
 use Rattle.std.proofs.Common.{◌≡◌, ℕ, ◌+◌, ◌<◌, drop, get_or, Bool, true, false, cond, List, [], ◌∷◌, ◌++◌, length, refl, sym, ap, ◌∙◌, subst, arith}
-use Rattle.std.specs.Prelude.{find, filter_map, slice_get, Option, Some, None, option_to_list}
+use Rattle.std.specs.Prelude.{slice_get, Option, Some, None, option_to_list}
 use Rattle.std.specs.BTreeMap.{insert_entry, is_at}
 use Rattle.std.specs.FinMap.Entries.{find as value_at, find-put, put}
 use Rattle.std.specs.List.{AllByRecursion, cons_option}

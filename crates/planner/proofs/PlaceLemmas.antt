@@ -1,5 +1,5 @@
 -- Entries by place: those of a map are those of the definitions.
-use Rattle.std.proofs.Common.{◌≡◌, ℕ, Bool, true, false, cond, List, [], ◌∷◌, ◌++◌, refl, sym, ap, ◌∙◌}
+use Rattle.std.proofs.Common.{◌≡◌, ℕ, cond, List, [], ◌∷◌, ◌++◌, refl, sym, ap, ◌∙◌}
 use Rattle.std.specs.Prelude.{Option, Some, None, option_to_list}
 use Rattle.std.specs.BTreeMap.{insert_entry, is_at}
 use Rattle.std.specs.FinMap.Entries.{by_order, find, put}
@@ -11,8 +11,7 @@ use Rattle.std.proofs.lemmas.List.{append-nil, append_assoc}
 use Rattle.std.specs.declared.cmp.Ordering.{Ordering}
 use Rattle.std.specs.declared.cmp.Ordering.TheVariants.{Less, Equal, Greater}
 use Rattle.mr_base.specs.declared.spans.Write.{Write}
-use Rattle.sql_eval.specs.OwnWrites.{FirstAndLast, OwnWrites, Place, place_cmp, write_at, writes_of}
-use Rattle.planner.specs.Kept.{with_values}
+use Rattle.sql_eval.specs.OwnWrites.{FirstAndLast, OwnWrites, Place, place_cmp, with_write, write_at, writes_of}
 
 same_choice : {A : Type 0} (o : Ordering) (a b c d : A) → c ≡ d → match_ordering o a b c ≡ by_order o a b d
 same_choice Less a b c d e = refl
@@ -38,7 +37,7 @@ kept_at choose place entries own o other v e =
 -- a place that holds another value
 pub kept_with : (place : Place) (before after first : Option (List ℕ)) (entries own new : OwnWrites) → entries ≡ own
     → first ≡ option_map_or (λ x. x.first) (find place_cmp place own) before
-    → new ≡ insert_entry place_cmp entries place (record { first = first; last = after }) → new ≡ with_values place before after own
+    → new ≡ insert_entry place_cmp entries place (record { first = first; last = after }) → new ≡ with_write own (record { range = place.0; key = place.1; before = before; after = after })
 kept_with place before after first entries own new v f e =
     let kept : Option (List ℕ) → FirstAndLast = λ x. record { first = x; last = after } in
     e ∙ insert_is_put place_cmp place (kept first) entries ∙ (λ i. put place_cmp place (kept (f i)) (v i))

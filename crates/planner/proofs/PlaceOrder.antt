@@ -1,6 +1,6 @@
 -- The order of places, and points that cover points.
 use Rattle.std.proofs.Common.{◌≡◌, ℕ, Bool, true, false, List, [], ◌∷◌, ◌++◌, refl, sym, ap, ◌∙◌, subst}
-use Rattle.std.specs.Prelude.{◌≢◌, ◌&&◌}
+use Rattle.std.specs.Prelude.{◌&&◌}
 use Rattle.std.specs.Cmp.{IsTotalOrder, on_total, then_total, nat_cmp_total, tied_itself, Equal-is}
 use Rattle.std.specs.Cmp.Lexicographic.{nat_list_cmp_total}
 use Rattle.std.specs.Ordering.{eq_by_cmp, is_lt, nat_cmp, ordering_reverse}
@@ -14,7 +14,6 @@ use Rattle.mr_base.specs.Spans.{IsKeyBelow, IsInside}
 use Rattle.mr_base.specs.declared.ids.RangeId.{RangeId}
 use Rattle.mr_base.specs.declared.spans.Ask.{Ask}
 use Rattle.mr_base.specs.declared.spans.Pair.{Pair}
-use Rattle.mr_base.specs.declared.spans.Span.{Span}
 use Rattle.row_locality.specs.Pairs.{bytes_cmp}
 use Rattle.row_locality.specs.Spans.{is_inside, point_of}
 use Rattle.row_locality.proofs.DatumOrder.{both_equal}

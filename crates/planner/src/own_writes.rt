@@ -5,7 +5,6 @@ ghost use Rattle.std.specs.FinMap.Entries.{find};
 ghost use Rattle.std.specs.Option.{option_copied, option_map_or};
 ghost use Rattle.row_locality.specs.Pairs.{key_value};
 ghost use Rattle.sql_eval.specs.OwnWrites.{addition, last_value, place_cmp, removal, with_write, write_at, writes_of};
-ghost use Rattle.planner.specs.Kept.{with_values};
 
 use mr_base::{Bytes, CloneIn, ListOf, Memory, Pair, RangeId, Write};
 use std::alloc::Global;
@@ -104,7 +103,8 @@ impl OwnWrites {
         before: Option<Bytes>,
         after: Option<Bytes>,
     ) -> Result<(), Memory>
-        ensures ok { OnOk result (self.new ≡ with_values place before after self.old) }
+        ensures ok { OnOk result (self.new ≡ with_write self.old
+            (record { range = place.0; key = place.1; before = before; after = after })) }
         ensures err { OnErr result (self.new ≡ self.old) }
     {
         let first = self.first_value(&place, before)?;
