@@ -1,0 +1,13 @@
+mod AckFacts
+mod BeginFacts
+mod CommitOrder
+mod DecidedFacts
+mod KnownNodes
+mod PeakLemmas
+mod Places
+mod ReadFacts
+mod SeenCommits
+mod SeenLemmas
+mod ShownFacts
+mod TxnFacts
+mod VisibleLemmas

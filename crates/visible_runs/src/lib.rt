@@ -1,0 +1,9 @@
+//! What follows from the laws of lawful runs for clocks: a transaction of the present misses nothing of what was
+//! acknowledged before it began.
+#![tactic(auto)]
+
+mod laws;
+
+pub use laws::{
+    acknowledged_stays_below_peak, clocks_stay_below_peak, lawful_is_visible_over_nodes,
+};
