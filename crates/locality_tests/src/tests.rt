@@ -1,0 +1,2 @@
+mod made_tables;
+mod rows;
