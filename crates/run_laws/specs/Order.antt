@@ -15,7 +15,7 @@ use Rattle.range_log.specs.declared.entries.Entry.TheVariants as log
 use Rattle.range_log.specs.declared.entries.Entry.{Entry}
 use Rattle.range_log.specs.declared.entries.TxnState.TheVariants as states
 use Rattle.range_log.specs.declared.entries.TxnState.{TxnState}
-use Rattle.run_laws.specs.OrderEvents.{HasJustBounced, IsApplied, IsDelivered, IsFirstAt, IsGivingUp, IsInStep, IsLineDue}
+use Rattle.run_laws.specs.OrderEvents.{NamesNode, HasJustBounced, IsApplied, IsDelivered, IsFirstAt, IsGivingUp, IsInStep, IsLineDue}
 use Rattle.run_laws.specs.Places.{IsInOwnStep, stepping}
 use Rattle.run_laws.specs.RangeLines.{HasJustLeased, IsCloseDue, IsLeaseDue, IsLeaseEventAt}
 use Rattle.run_words.specs.Askers.{gateway_of, own_txn}
@@ -111,6 +111,6 @@ EntryOrder setup h _ = ⊥
 
 -- Order: each line, each tick inside a `settle` line and each entry comes where it may.
 abbrev pub Order : Setup → History → Item → Type 0
-Order setup h (Ran line event) = IsLineDue (event_of h) (has_ticked h)
+Order setup h (Ran line event) = IsLineDue (event_of h) (has_ticked h) × NamesNode setup event
 Order setup h (Ticked ms) = (event_of h ≡ Some (events.Settle ms)) × (has_ticked h ≡ false)
 Order setup h (Made made) = EntryOrder setup h made

@@ -1,4 +1,4 @@
-use Rattle.std.specs.Prelude.{Bool, List, None, Option, Some, false, length, min, true, ℕ, ⊤, ◌+◌, ◌<◌, ◌∷◌, ◌≡◌, ◌⊎◌}
+use Rattle.std.specs.Prelude.{Bool, Contains, List, None, Option, Some, false, length, min, true, ℕ, ⊤, ◌+◌, ◌<◌, ◌∷◌, ◌≡◌, ◌⊎◌}
 use Rattle.journal.specs.declared.entries.JournalEntry.TheVariants as entry
 use Rattle.journal.specs.declared.events.Event.TheVariants as events
 use Rattle.journal.specs.declared.events.Event.{Event}
@@ -11,7 +11,7 @@ use Rattle.run_words.specs.Logs.{applied, log_of}
 use Rattle.run_words.specs.Messages.{Mail, flight, mail}
 use Rattle.run_words.specs.Nodes.{is_running}
 use Rattle.run_words.specs.Ranges.{HoldsReplica, IsAllApplied}
-use Rattle.run_words.specs.Setup.{Setup}
+use Rattle.run_words.specs.Setup.{Setup, node_ids}
 use Rattle.run_words.specs.Steps.{Between, Bounces, Own, Step, Takes, event_of, has_entry, has_ticked, passed, step_of}
 use Rattle.run_words.specs.Transactions.{is_open}
 
@@ -25,6 +25,12 @@ IsFirstAt h event = (event_of h ≡ Some event) × (has_entry h ≡ false)
 abbrev pub IsLineDue : Option Event → Bool → Type 0
 IsLineDue (Some (events.Settle ms)) ticked = ticked ≡ true
 IsLineDue _ ticked = ⊤
+
+-- A line that starts a node, or moves its clock, names one that is there.
+abbrev pub NamesNode : Setup → Event → Type 0
+NamesNode setup (events.Start n) = Contains (node_ids setup) n
+NamesNode setup (events.Tick (Some n) ms) = Contains (node_ids setup) n
+NamesNode setup _ = ⊤
 
 -- Messages are delivered and entries applied until none is left: at a `drain` line, and at a `settle` line before it
 -- ticks.
