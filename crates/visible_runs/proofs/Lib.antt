@@ -1,13 +1,17 @@
 mod AckFacts
+mod Answered
 mod BeginFacts
 mod CommitOrder
 mod DecidedFacts
+mod FedReads
 mod KnownNodes
+mod NamedNodes
 mod PeakLemmas
 mod Places
 mod ReadFacts
 mod SeenCommits
 mod SeenLemmas
+mod Settings
 mod ShownFacts
 mod TxnFacts
 mod VisibleLemmas

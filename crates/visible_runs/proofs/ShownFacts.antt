@@ -28,7 +28,7 @@ use Rattle.run_words.proofs.HappenedLemmas.{happened_place, happened_since, plac
 use Rattle.run_words.proofs.MemberLemmas.{contains_none, picked_cases}
 use Rattle.run_words.specs.Askers.{txn_of}
 use Rattle.run_words.specs.Attempts.{Attempt, attempt_of}
-use Rattle.run_words.specs.Happened.{IsPlace}
+use Rattle.run_words.specs.Happened.{Always, IsPlace}
 use Rattle.run_words.specs.History.{History, Item, Made}
 use Rattle.run_words.specs.Logs.{log_of}
 use Rattle.run_words.specs.Puts.{CommitMade, PutMade, commit, fate_of, fate_shown, puts, record_of}
@@ -47,7 +47,7 @@ use Rattle.visible_runs.proofs.Places.{before_item, place_order}
 use Rattle.held_reads.proofs.Standing.{version_of}
 use Rattle.visible_runs.proofs.TxnFacts.{IsThere, last_stays, txn_attempt}
 use Rattle.held_reads.proofs.VersionLemmas.{load_unowned, unowned_apart}
-use Rattle.visible_runs.specs.Laws.{AnsweredAskNothing}
+use Rattle.visible_runs.specs.Laws.{AsksNothing}
 
 some_there : {X : Type 0} (o : Option X) → IsSome o → IsThere o
 some_there None s = absurd (true≢false (sym s))
@@ -102,7 +102,7 @@ served_again setup h b j span at limit (inl r) none = absurd (none (record { ran
 served_again setup h b j span at limit (inr (from, r, no_limit)) none =
     let g : WasServedAt setup h b j span r.attempt.read_at = r.served in (g.0, g.1, g.2, g.3)
 
-pub serve_before : (setup : Setup) (h : History) → IsLawful setup h → AnsweredAskNothing setup h → (ack : Acknowledgement) (results : List StatementResult) (older : History)
+pub serve_before : (setup : Setup) (h : History) → IsLawful setup h → Always (AsksNothing setup) h → (ack : Acknowledgement) (results : List StatementResult) (older : History)
     → IsPlace (Made (entry.Ack ack.txn ack.ts results) ∷ older) h → last_attempt older ack.txn ≡ Some ack.attempt
     → (s : ServedRead) → Contains (serves setup h ack.attempt) s → HadServed setup older ack.attempt s.range s.read.span
 serve_before setup [] l new ack results older p last s c = absurd (contains_none s c)

@@ -23,7 +23,7 @@ use Rattle.run_words.proofs.HappenedLemmas.{place_of_place}
 use Rattle.run_words.proofs.LogLemmas.{put_in_log}
 use Rattle.run_words.specs.Askers.{txn_of}
 use Rattle.run_words.specs.Attempts.{Attempt, attempt_of}
-use Rattle.run_words.specs.Happened.{IsPlace}
+use Rattle.run_words.specs.Happened.{Always, IsPlace}
 use Rattle.run_words.specs.History.{History, Made}
 use Rattle.run_words.specs.Logs.{log_of}
 use Rattle.run_words.specs.Puts.{CommitMade, PutMade, commit, puts}
@@ -32,6 +32,7 @@ use Rattle.run_words.specs.Serving.{ServedRead, serves}
 use Rattle.run_words.specs.Setup.{Setup}
 use Rattle.run_words.specs.Transactions.{Beginning, beginning, last_attempt}
 use Rattle.visible_runs.proofs.AckFacts.{IsAcked, ack_below, acked}
+use Rattle.visible_runs.proofs.Answered.{answered_ask_nothing}
 use Rattle.held_reads.proofs.AttemptFacts.{IsNumbered, is_numbered}
 use Rattle.held_reads.proofs.Basics.{not_none, some_same}
 use Rattle.visible_runs.proofs.BeginFacts.{IsBegunAfter, begun_after, no_attempt}
@@ -48,12 +49,12 @@ use Rattle.visible_runs.proofs.SeenCommits.{not_above}
 use Rattle.visible_runs.proofs.ShownFacts.{HadServed, committed_by, serve_before, told_commit}
 use Rattle.held_reads.proofs.TsLemmas.{below_or_not, le_trans as not_below_trans, total}
 use Rattle.visible_runs.proofs.TxnFacts.{IsThere, attempt_begun, txn_attempt, txn_in}
-use Rattle.visible_runs.specs.Laws.{AnsweredAskNothing, NameNodes}
+use Rattle.visible_runs.specs.Laws.{AsksNothing, NameNodes}
 
 wall_le : (a b : Ts) → IsBelow a b → a.wall ≤ b.wall
 wall_le a b p = grind (arith, p)
 
-module _ (setup : Setup) (sound : IsSoundSetup setup) (h : History) (l : IsLawful setup h) (names : NameNodes setup h) (new : AnsweredAskNothing setup h) (ack : Acknowledgement) (t : TxnId)
+module _ (setup : Setup) (sound : IsSoundSetup setup) (h : History) (l : IsLawful setup h) (names : NameNodes setup h) (new : Always (AsksNothing setup) h) (ack : Acknowledgement) (t : TxnId)
     (began : IsBegunAfter setup h ack t) (w : AttemptId) (made : CommitMade) (c : commit h w ≡ Some made) where
   a : IsAcked setup began.older ack
   a = acked setup began.older began.lawful ack began.acks
@@ -174,9 +175,10 @@ module _ (setup : Setup) (sound : IsSoundSetup setup) (h : History) (l : IsLawfu
     is_below = ⊎_elim (λ p. p) (λ n. absurd (not_above_read (above_by n (total d.attempt.read_at made.ts)))) (below_or_not made.ts ts)
 
 -- so the history is visible
-pub visible : (setup : Setup) → IsSoundSetup setup → (h : History) → IsLawful setup h → NameNodes setup h → AnsweredAskNothing setup h → IsVisible setup h
-visible setup sound h l names new ack t a ts w made b decided c shown (put, s, among, served, range, inside) =
+pub visible : (setup : Setup) → IsSoundSetup setup → (h : History) → IsLawful setup h → NameNodes setup h → IsVisible setup h
+visible setup sound h l names ack t a ts w made b decided c shown (put, s, among, served, range, inside) =
     let began : IsBegunAfter setup h ack t = begun_after setup h l names ack t b in
     let d : IsDecidedAt setup h t a ts = decided_at setup h l t a ts decided in
-    let e : (commit began.older w ≡ Some made) × (made.ts.wall ≤ began.limit) = committed_early setup sound h l names new ack t began w made c shown in
+    let e : (commit began.older w ≡ Some made) × (made.ts.wall ≤ began.limit) =
+    committed_early setup sound h l names (answered_ask_nothing setup sound h l) ack t began w made c shown in
     is_below setup sound h l ack t began a ts d w made c e.0 e.1 put among s.range range s.read.span inside (read_of setup h l a d.attempt d.is_attempt s served)

@@ -1,6 +1,7 @@
 //! The laws on clocks and on what is visible. Each is the contract of a function that does nothing.
 
-ghost use Rattle.visible_runs.specs.Laws.{AcknowledgedStaysBelowPeak, ClocksStayBelowPeak, LawfulIsVisibleOverNodes};
+ghost use Rattle.run_laws.specs.Laws.{LawfulIsVisible};
+ghost use Rattle.visible_runs.specs.Laws.{AcknowledgedStaysBelowPeak, AnsweredAskNothing, ClocksStayBelowPeak};
 
 /// No clock has seen more than the greatest physical clock.
 pub fn clocks_stay_below_peak()
@@ -12,7 +13,13 @@ pub fn acknowledged_stays_below_peak()
     ensures { AcknowledgedStaysBelowPeak }
 {}
 
-/// A lawful history over nodes that are there is visible, where answered attempts read nothing new.
-pub fn lawful_is_visible_over_nodes()
-    ensures { LawfulIsVisibleOverNodes }
+/// In a lawful history the list of an attempt that answered its transaction reads nothing more.
+pub fn answered_ask_nothing()
+    ensures { AnsweredAskNothing }
+{}
+
+/// Every lawful history is visible: while clocks are within the offset, no transaction of the present misses, in what
+/// it reads, what was acknowledged before it began.
+pub fn lawful_is_visible()
+    ensures { LawfulIsVisible }
 {}

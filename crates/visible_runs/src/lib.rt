@@ -5,5 +5,5 @@
 mod laws;
 
 pub use laws::{
-    acknowledged_stays_below_peak, clocks_stay_below_peak, lawful_is_visible_over_nodes,
+    acknowledged_stays_below_peak, answered_ask_nothing, clocks_stay_below_peak, lawful_is_visible,
 };
