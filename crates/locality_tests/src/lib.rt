@@ -1,4 +1,4 @@
-//! Tests of rows as keys and values, over public calls alone.
+//! Tests of rows as keys and values and of the searches for them, over public calls alone.
 #![tactic(auto)]
 
 #[cfg(test)]

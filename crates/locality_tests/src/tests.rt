@@ -1,2 +1,3 @@
 mod made_tables;
 mod rows;
+mod searches;
