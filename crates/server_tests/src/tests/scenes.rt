@@ -1,6 +1,6 @@
 //! A range's log with the server of one replica, and what is asked of it.
 
-ghost use Rattle.std.specs.Prelude.{◌≡◌, ◌↔◌, IfOk, IsSome, IsTrue, OnOk};
+ghost use Rattle.std.specs.Prelude.{IfOk, IsSome, IsTrue, OnOk};
 ghost use Rattle.mr_base.specs.Nodes.{IsNode};
 ghost use Rattle.range_log.specs.Facts.{lease_of};
 ghost use Rattle.range_server.specs.Leases.{HasAnswered};
@@ -179,7 +179,8 @@ fn server_at(
     Ok(server)
 }
 
-/// Whether the server can be asked: it has applied a lease, and all of the log or not the log's last lease.
+/// Whether the server can be asked: it has applied a lease, and all of the log or a lease of
+/// another number than the log's last.
 fn is_ready(server: &Server, log: &RangeLog) -> bool
     requires { IsStaged server.now log.now }
     ensures beside { IsTrue result → IsBeside server.now log.now.entries }
@@ -191,18 +192,7 @@ fn is_ready(server: &Server, log: &RangeLog) -> bool
     if server.replica().applied() == log.len() {
         return true;
     }
-    !is_same(&lease, &log.lease())
-}
-
-/// Whether two leases are the same.
-fn is_same(a: &Lease, b: &Lease) -> bool
-    ensures { IsTrue result ↔ (a.now ≡ b.now) }
-{
-    a.seq == b.seq
-        && a.holder == b.holder
-        && a.boot == b.boot
-        && a.expiration == b.expiration
-        && a.low == b.low
+    lease.seq != log.lease().seq
 }
 
 /// What is asked in words, answered as text: the reply, by what right, and the entries that were appended.
@@ -377,25 +367,90 @@ fn move_lease(
     requires beside { IsBeside server.old log.old.entries }
     ensures { OnOk result (IsStaged server.new log.new) }
 {
-    if verb == "restart" {
-        server.restart(small(rest));
-        return said(alloc, "restarted");
+    match verb {
+        "restart" => {
+            server.restart(small(rest));
+            said(alloc, "restarted")
+        }
+        "close" => close(alloc, server, log, clock, running),
+        "acquire" => acquire(alloc, server, log, clock, running),
+        "extend" => extend(alloc, server, log, clock, running),
+        _ => {
+            let (node, boot) = word(rest);
+            transfer(
+                alloc,
+                server,
+                log,
+                node_of(node),
+                small(boot),
+                clock,
+                running,
+            )
+        }
     }
-    if verb == "close" {
-        let closed = server.close(clock, &SETTINGS, log, running);
-        return closed_text(alloc, closed);
-    }
-    if verb == "acquire" {
-        let lease = server.acquire(clock, &SETTINGS, log, running);
-        return lease_text(alloc, lease);
-    }
-    if verb == "extend" {
-        let lease = server.extend(clock, &SETTINGS, log, running);
-        return lease_text(alloc, lease);
-    }
-    let (node, boot) = word(rest);
-    let lease = server.transfer(node_of(node), small(boot), clock, &SETTINGS, log, running);
-    lease_text(alloc, lease)
+}
+
+fn close(
+    alloc: Global,
+    server: &mut Server,
+    log: &mut RangeLog,
+    clock: Reading,
+    running: NodeSet,
+) -> Result<String, Memory>
+    requires staged { IsStaged server.old log.old }
+    requires beside { IsBeside server.old log.old.entries }
+    ensures { OnOk result (IsStaged server.new log.new) }
+{
+    let answer = server.close(clock, &SETTINGS, log, running);
+    closed_text(alloc, answer)
+}
+
+fn acquire(
+    alloc: Global,
+    server: &mut Server,
+    log: &mut RangeLog,
+    clock: Reading,
+    running: NodeSet,
+) -> Result<String, Memory>
+    requires staged { IsStaged server.old log.old }
+    requires beside { IsBeside server.old log.old.entries }
+    ensures { OnOk result (IsStaged server.new log.new) }
+{
+    let answer = server.acquire(clock, &SETTINGS, log, running);
+    lease_text(alloc, answer)
+}
+
+fn extend(
+    alloc: Global,
+    server: &mut Server,
+    log: &mut RangeLog,
+    clock: Reading,
+    running: NodeSet,
+) -> Result<String, Memory>
+    requires staged { IsStaged server.old log.old }
+    requires beside { IsBeside server.old log.old.entries }
+    ensures { OnOk result (IsStaged server.new log.new) }
+{
+    let answer = server.extend(clock, &SETTINGS, log, running);
+    lease_text(alloc, answer)
+}
+
+fn transfer(
+    alloc: Global,
+    server: &mut Server,
+    log: &mut RangeLog,
+    to: NodeId,
+    boot: u32,
+    clock: Reading,
+    running: NodeSet,
+) -> Result<String, Memory>
+    requires node { IsNode to }
+    requires staged { IsStaged server.old log.old }
+    requires beside { IsBeside server.old log.old.entries }
+    ensures { OnOk result (IsStaged server.new log.new) }
+{
+    let answer = server.transfer(to, boot, clock, &SETTINGS, log, running);
+    lease_text(alloc, answer)
 }
 
 fn lease_text(alloc: Global, lease: Result<Lease, LeaseRefusal>) -> Result<String, Memory>
