@@ -1,4 +1,4 @@
-use Rattle.std.specs.Prelude.{◌==◌, Bool, Option, Some, None, if◌then◌else◌, nat_lt}
+use Rattle.std.specs.Prelude.{Option, Some, None, if◌then◌else◌, nat_lt}
 use Rattle.mr_base.specs.declared.ids.NodeId.{NodeId}
 use Rattle.range_log.specs.declared.entries.Lease.{Lease}
 use Rattle.request_routes.specs.declared.hints.Hint.{Hint}

@@ -1,4 +1,4 @@
-use Rattle.std.specs.Prelude.{◌||◌, Bool, Option, Some, None, if◌then◌else◌}
+use Rattle.std.specs.Prelude.{◌||◌, Option, Some, None, if◌then◌else◌}
 use Rattle.closed_ts.specs.Routing.{is_member, is_node}
 use Rattle.mr_base.specs.declared.ids.NodeId.{NodeId}
 use Rattle.request_routes.specs.declared.progress.Progress.{Progress}

@@ -1,8 +1,10 @@
-use Rattle.std.specs.Prelude.{Bool, true, false, List, [], ◌++◌, filter, Option, Some, None}
+use Rattle.std.specs.Prelude.{ℕ, ◌&&◌, Bool, false, List, [], ◌++◌, filter, Option, Some, None}
+use Rattle.std.specs.Str.{bytes_eq}
 use Rattle.closed_ts.specs.Routing.{asking_order, is_node}
 use Rattle.mr_base.specs.declared.ids.NodeId.{NodeId}
 use Rattle.mr_base.specs.declared.messages.Request.{Request}
 use Rattle.mr_base.specs.declared.messages.Request.TheVariants as requests
+use Rattle.mr_base.specs.declared.nodes.NodeInfo.{NodeInfo}
 use Rattle.mr_base.specs.declared.nodes.NodeSet.{NodeSet}
 use Rattle.request_routes.specs.declared.routes.Policy.{Policy}
 use Rattle.request_routes.specs.declared.routes.Policy.TheVariants as policies
@@ -39,3 +41,7 @@ preferred _ near = record { 0 = 0 }
 abbrev pub route : Policy → (gateway : NodeId) → (near : NodeSet) → (hint : NodeId) → (named : Option NodeId) → List NodeId → List NodeId
 route policy gateway near hint named replicas =
     named_first named replicas ++ own_first policy gateway replicas ++ asking_order replicas (preferred policy near) hint
+
+-- The node of this number stands in the region.
+abbrev pub stands_in : (region : List ℕ) → NodeId → NodeInfo → Bool
+stands_in region n node = is_node node.id n && bytes_eq node.region region

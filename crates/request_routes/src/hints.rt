@@ -32,13 +32,20 @@ impl Model for Hints {
 
 impl Hint {
     /// What a lease tells.
-    pub fn of(lease: &Lease) -> Hint
-        ensures { result ≡ hint_of lease.now }
+    pub fn of(lease: Lease) -> Hint
+        ensures { result ≡ hint_of lease }
     {
         Hint {
             seq: lease.seq,
             holder: lease.holder,
         }
+    }
+
+    /// This hint where it is of a later lease than the old one, else the old one.
+    fn unless_older(self, old: Hint) -> Hint
+        ensures { result ≡ newer_hint self old }
+    {
+        if old.seq < self.seq { self } else { old }
     }
 
     /// The hint with which a range begins: its first lease, of its first voter.
@@ -77,9 +84,9 @@ impl Hints {
     }
 
     /// The node's own replica has applied a lease: it counts, also where its sequence is lower.
-    pub fn learn_applied(&mut self, place: usize, lease: &Lease)
+    pub fn learn_applied(&mut self, place: usize, lease: Lease)
         requires { place < length self.old }
-        ensures { self.new ≡ slice_set self.old place (hint_of lease.now) }
+        ensures { self.new ≡ slice_set self.old place (hint_of lease) }
     {
         self.by_place[place] = Hint::of(lease);
     }
@@ -89,14 +96,12 @@ impl Hints {
         requires { place < length self.old }
         ensures { (old : Hint) → slice_get self.old place ≡ Some old → self.new ≡ slice_set self.old place (newer_hint told old) }
     {
-        if self.by_place[place].seq < told.seq {
-            self.by_place[place] = told;
-        }
+        self.by_place[place] = told.unless_older(self.by_place[place]);
     }
 
     /// The node was started again: what is left is the last lease that its own replica has applied, and the first
     /// hint, of the first voter `first`, where it has none.
-    pub fn restart(&mut self, place: usize, applied: Option<&Lease>, first: NodeId)
+    pub fn restart(&mut self, place: usize, applied: Option<Lease>, first: NodeId)
         requires { place < length self.old }
         ensures { self.new ≡ slice_set self.old place (hint_at_start applied first) }
     {

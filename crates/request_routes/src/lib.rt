@@ -7,4 +7,4 @@ mod routes;
 
 pub use hints::{Hint, Hints};
 pub use progress::Progress;
-pub use routes::{nodes_of_region, Policy};
+pub use routes::{Policy, nodes_of_region};

@@ -1,10 +1,11 @@
 //! Which replica a request goes to next.
 
-ghost use Rattle.std.specs.Prelude.{◌≡◌, ◌↔◌, All, Any, Contains, IfSome, IsNone, find};
-ghost use Rattle.closed_ts.specs.Routing.{first_unasked};
+ghost use Rattle.std.specs.Prelude.{◌≡◌, ◌↔◌, ◌&&◌, All, Contains, IfSome, IsNone, IsTrue, find, not};
+ghost use Rattle.std.specs.List.{list_any};
+ghost use Rattle.closed_ts.specs.Routing.{first_unasked, is_member, is_node};
 ghost use Rattle.mr_base.specs.Nodes.{IsMember, IsNode};
 ghost use Rattle.mr_base.specs.declared.ids.NodeId.{NodeId};
-ghost use Rattle.request_routes.specs.Routes.{named_first, own_first, policy_of, preferred, read_policy, route};
+ghost use Rattle.request_routes.specs.Routes.{named_first, own_first, policy_of, preferred, read_policy, route, stands_in};
 
 use crate::progress::Progress;
 use closed_ts::next_target;
@@ -64,6 +65,7 @@ impl Policy {
             .or(next_target(replicas, self.preferred(near), progress.asked, hint))
     }
 
+    /// The replica that a reply named, where it wasn't asked.
     fn first_named(self, replicas: &[NodeId], progress: Progress) -> Option<NodeId>
         requires { All IsNode replicas.now }
         ensures { result ≡ first_unasked progress.asked (named_first progress.named replicas.now) }
@@ -74,6 +76,7 @@ impl Policy {
         }
     }
 
+    /// For a read, the gateway's own replica, where it wasn't asked.
     fn first_own(self, gateway: NodeId, replicas: &[NodeId], asked: NodeSet) -> Option<NodeId>
         requires { All IsNode replicas.now }
         ensures { result ≡ first_unasked asked (own_first self gateway replicas.now) }
@@ -84,6 +87,7 @@ impl Policy {
         }
     }
 
+    /// The nodes of the gateway's region, where those go before the leaseholder.
     fn preferred(self, near: NodeSet) -> NodeSet
         ensures { result ≡ preferred self near }
     {
@@ -97,7 +101,7 @@ impl Policy {
 /// The replica of a node, where it wasn't asked.
 fn first_of_node(node: NodeId, replicas: &[NodeId], asked: NodeSet) -> Option<NodeId>
     requires { All IsNode replicas.now }
-    ensures { result ≡ first_unasked asked (filter (is_node node) replicas.now) }
+    ensures { result ≡ find (λ replica. is_node node replica && not (is_member asked replica)) replicas.now }
 {
     replicas
         .iter()
@@ -108,7 +112,7 @@ fn first_of_node(node: NodeId, replicas: &[NodeId], asked: NodeSet) -> Option<No
 /// The nodes of a region.
 pub fn nodes_of_region(nodes: &[NodeInfo], region: &Bytes) -> NodeSet
     requires { All (λ node. IsNode node.id) nodes.now }
-    ensures { (n : NodeId) → IsNode n → (IsMember result n ↔ Any (λ node. (node.id ≡ n) × (node.region ≡ region.now)) nodes.now) }
+    ensures { (n : NodeId) → IsNode n → (IsMember result n ↔ IsTrue (list_any (stands_in region.now n) nodes.now)) }
 {
     let mut found = NodeSet::EMPTY;
     for node in nodes {
