@@ -23,11 +23,11 @@ after g = (pcg32 g).1
 abbrev pub pick : (count : ℕ) → Lcg → ℕ
 pick count g = word g % count
 
--- Of eight kinds two add a user, two change one, one reads and one removes one; the last adds a code where the key is
+-- Of eight kinds three add a user, two change one, one reads and one removes one; the last adds a code where the key is
 -- low, and else counts the codes.
 abbrev pub statement_for : (kind key number : ℕ) → Statement
 statement_for kind key number =
-    if nat_lt kind 2 then InsertUser key number
+    if nat_lt kind 3 then InsertUser key number
     else if nat_lt kind 5 then UpdateUser key
     else if kind == 5 then SelectUser key
     else if kind == 6 then DeleteUser key

@@ -32,8 +32,8 @@ fn statement_for(kind: u32, key: u32, number: u32) -> Statement
     ensures { result ≡ statement_for kind key number }
 {
     match kind {
-        0 | 1 => Statement::InsertUser { key, value: number },
-        2 | 3 | 4 => Statement::UpdateUser { key },
+        0 | 1 | 2 => Statement::InsertUser { key, value: number },
+        3 | 4 => Statement::UpdateUser { key },
         5 => Statement::SelectUser { key },
         6 => Statement::DeleteUser { key },
         _ if key < 100 => Statement::InsertPromo {
