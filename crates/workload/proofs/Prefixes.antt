@@ -6,7 +6,7 @@ use Rattle.std.specs.Io.KnownBytes.{append_known}
 use Rattle.rand_pcg.specs.Lcg.{Lcg}
 use Rattle.mr_io.specs.Pieces.{WrotePrefix}
 use Rattle.mr_io.proofs.Told.{append_known-append}
-use Rattle.workload.specs.Scenario.{transaction_text, transactions_text, words_after}
+use Rattle.workload.specs.Generated.{transaction_text, transactions_text, words_after}
 use Rattle.workload.specs.Draws.{behind, drawn}
 
 -- a text that was written whole

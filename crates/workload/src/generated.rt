@@ -5,7 +5,7 @@ ghost use Rattle.std.specs.Io.KnownBytes.{append_known};
 ghost use Rattle.mr_io.specs.Faults.{CountsFault};
 ghost use Rattle.mr_io.specs.Pieces.{WrotePrefix};
 ghost use Rattle.workload.specs.Draws.{behind, drawn};
-ghost use Rattle.workload.specs.Scenario.{drain_text, footer, gen_text, header, leases_text, transaction_text, transactions_text};
+ghost use Rattle.workload.specs.Generated.{drain_text, footer, gen_text, header, leases_text, transaction_text, transactions_text};
 
 use crate::draws::{draw, seeded};
 use crate::transactions::Transaction;
@@ -124,7 +124,7 @@ fn next_lines(alloc: Global, words: &mut Lcg64Xsh32, number: u32) -> Result<Stri
 }
 
 /// Adds the lines of so many transactions.
-#[tactic(auto, unfolding(crate::specs::Scenario::transactions_text, crate::specs::Scenario::words_after))]
+#[tactic(auto, unfolding(crate::specs::Generated::transactions_text, crate::specs::Generated::words_after))]
 fn add_transactions(alloc: Global, text: &mut Vec<u8>, seed: u64, size: u32) -> Result<(), Memory>
     ensures { OnOk result (text.new.items ≡ text.old.items ++ transactions_text size seed) }
 {
@@ -147,16 +147,19 @@ pub fn gen_text(alloc: Global, seed: u64, size: u32) -> Result<Bytes, Memory>
 }
 
 /// Writes the lines of so many transactions, one transaction after the other.
-#[tactic(auto, unfolding(crate::specs::Scenario::transactions_text, crate::specs::Scenario::words_after))]
+#[tactic(auto, unfolding(crate::specs::Generated::transactions_text, crate::specs::Generated::words_after))]
 fn write_transactions<K: Sink>(
     alloc: Global,
     seed: u64,
     size: u32,
     sink: &mut K,
 ) -> Result<(), GenFault>
-    ensures all { OnOk result (K.written sink.new ≡ append_known (K.written sink.old) (transactions_text size seed)) }
-    ensures part { OnErr result (WrotePrefix (K.written sink.old) (K.written sink.new) (transactions_text size seed)) }
-    ensures failed { result ≡ Err GenFault.Write → CountsFault (K.faults sink.old) (K.faults sink.new) K.most_faults }
+    ensures all { OnOk result
+        (K.written sink.new ≡ append_known (K.written sink.old) (transactions_text size seed)) }
+    ensures part { OnErr result
+        (WrotePrefix (K.written sink.old) (K.written sink.new) (transactions_text size seed)) }
+    ensures failed { result ≡ Err GenFault.Write
+        → CountsFault (K.faults sink.old) (K.faults sink.new) K.most_faults }
     ensures never_falls { K.faults sink.old ≤ K.faults sink.new }
 {
     let mut words = seeded(seed);
@@ -172,7 +175,8 @@ fn write_transactions<K: Sink>(
 pub fn generate<K: Sink>(alloc: Global, seed: u64, size: u32, sink: &mut K) -> Result<(), GenFault>
     ensures all { OnOk result (K.written sink.new ≡ append_known (K.written sink.old) (gen_text seed size)) }
     ensures part { OnErr result (WrotePrefix (K.written sink.old) (K.written sink.new) (gen_text seed size)) }
-    ensures failed { result ≡ Err GenFault.Write → CountsFault (K.faults sink.old) (K.faults sink.new) K.most_faults }
+    ensures failed { result ≡ Err GenFault.Write
+        → CountsFault (K.faults sink.old) (K.faults sink.new) K.most_faults }
     ensures never_falls { K.faults sink.old ≤ K.faults sink.new }
 {
     write_all(sink, header().as_bytes())?;

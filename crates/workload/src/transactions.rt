@@ -33,7 +33,7 @@ pub(crate) struct Transaction {
 }
 
 impl fmt::Display for Statement {
-    ghost use Rattle.workload.specs.Scenario.{statement_text};
+    ghost use Rattle.workload.specs.Generated.{statement_text};
     ghost use Rattle.std.specs.Prelude.{Some};
 
     ghost output = { λ s. Some (statement_text s) };

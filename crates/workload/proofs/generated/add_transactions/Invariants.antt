@@ -1,5 +1,5 @@
 use Rattle.std.proofs.Common.{◌≡◌, ◌++◌}
-use Rattle.workload.specs.Scenario.{transactions_text, words_after}
+use Rattle.workload.specs.Generated.{transactions_text, words_after}
 use Rattle.workload.proofs.generated.add_transactions.Given as goal
 
 abbrev pub invariant-loop-done : goal.invariant-loop-done

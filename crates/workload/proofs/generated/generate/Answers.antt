@@ -3,7 +3,7 @@ use Rattle.std.proofs.lemmas.Result.{err_from_is_err_and}
 use Rattle.std.specs.Io.KnownBytes.{append_known}
 use Rattle.mr_io.specs.Pieces.{WrotePrefix}
 use Rattle.mr_io.proofs.Told.{append_known-append}
-use Rattle.workload.specs.Scenario.{footer, header, transactions_text}
+use Rattle.workload.specs.Generated.{footer, header, transactions_text}
 use Rattle.workload.proofs.Prefixes.{prefix_behind, prefix_front}
 use Rattle.workload.proofs.generated.generate.Goals as goal
 

@@ -1,6 +1,6 @@
 use Rattle.std.proofs.Common.{◌+◌, ◌∙◌, arith}
 use Rattle.std.proofs.lemmas.Result.{err_from_is_err_and}
-use Rattle.workload.specs.Scenario.{transactions_text}
+use Rattle.workload.specs.Generated.{transactions_text}
 use Rattle.workload.proofs.Prefixes.{prefix_in_next, prefix_of_all, prefix_whole, words_more, written_more}
 use Rattle.workload.proofs.generated.write_transactions.Goals as goal
 

@@ -1,6 +1,6 @@
 use Rattle.std.proofs.Common.{◌≡◌, ◌≤◌}
 use Rattle.std.specs.Io.KnownBytes.{append_known}
-use Rattle.workload.specs.Scenario.{transactions_text, words_after}
+use Rattle.workload.specs.Generated.{transactions_text, words_after}
 use Rattle.workload.proofs.generated.write_transactions.Given as goal
 
 abbrev pub invariant-loop-done : goal.invariant-loop-done

@@ -10,7 +10,8 @@ use Rattle.workload.specs.declared.transactions.Transaction.{Transaction}
 abbrev pub line : List ℕ → List ℕ
 line text = text ++ 10 ∷ []
 
--- Nine nodes in three zones each of three regions, one database over them, a table with its rows by region and a global table.
+-- Nine nodes in three zones each of three regions, one database over them, a table with its rows by region and a
+-- global table.
 abbrev pub header : List ℕ
 header =
     line (codes "cluster")
@@ -29,11 +30,14 @@ header =
     ++ line (codes "begin")
 
 abbrev pub statement_text : Statement → List ℕ
-statement_text (InsertUser key value) = codes "INSERT INTO users (id, email, v) VALUES (" ++ decimal key ++ codes ", 'e" ++ decimal key ++ codes "', " ++ decimal value ++ codes ")"
+statement_text (InsertUser key value) =
+    codes "INSERT INTO users (id, email, v) VALUES (" ++ decimal key ++ codes ", 'e" ++ decimal key ++ codes "', "
+    ++ decimal value ++ codes ")"
 statement_text (UpdateUser key) = codes "UPDATE users SET v = v + 1 WHERE id = " ++ decimal key
 statement_text (SelectUser key) = codes "SELECT * FROM users WHERE id = " ++ decimal key
 statement_text (DeleteUser key) = codes "DELETE FROM users WHERE id = " ++ decimal key
-statement_text (InsertPromo key percent) = codes "INSERT INTO promo (code, pct) VALUES ('c" ++ decimal key ++ codes "', " ++ decimal percent ++ codes ")"
+statement_text (InsertPromo key percent) =
+    codes "INSERT INTO promo (code, pct) VALUES ('c" ++ decimal key ++ codes "', " ++ decimal percent ++ codes ")"
 statement_text CountPromo = codes "SELECT count(*) FROM promo"
 
 -- All messages are delivered behind some transactions.
@@ -44,17 +48,19 @@ drain_text drains = if drains then line (codes "drain") else []
 abbrev pub leases_text : (number : ℕ) → List ℕ
 leases_text number =
     if number % 500 == 0
-    then line (codes "lease extend r1") ++ line (codes "lease extend r2") ++ line (codes "lease extend r3") ++ line (codes "lease extend r4") ++ line (codes "close all")
+    then line (codes "lease extend r1") ++ line (codes "lease extend r2") ++ line (codes "lease extend r3")
+    ++ line (codes "lease extend r4") ++ line (codes "close all")
     else []
 
 -- Each transaction comes a millisecond after the one before.
 abbrev pub transaction_text : Transaction → List ℕ
 transaction_text t =
     line (codes "tick all 1")
-    ++ line (codes "txn x" ++ decimal t.number ++ codes " " ++ node_text t.gateway ++ codes " now " ++ statement_text t.statement)
+    ++ line (codes "txn x" ++ decimal t.number ++ codes " " ++ node_text t.gateway ++ codes " now "
+    ++ statement_text t.statement)
     ++ drain_text t.drains ++ leases_text t.number
 
--- The generator behind so many transactions.
+-- The generator of the words behind so many transactions.
 unfoldable pub words_after : (count seed : ℕ) → Lcg
 words_after zero seed = seeded seed
 words_after (suc count) seed = behind (words_after count seed)
@@ -62,7 +68,8 @@ words_after (suc count) seed = behind (words_after count seed)
 -- So many transactions, numbered from 1.
 unfoldable pub transactions_text : (count seed : ℕ) → List ℕ
 transactions_text zero seed = []
-transactions_text (suc count) seed = transactions_text count seed ++ transaction_text (drawn (suc count) (words_after count seed))
+transactions_text (suc count) seed =
+    transactions_text count seed ++ transaction_text (drawn (suc count) (words_after count seed))
 
 abbrev pub footer : List ℕ
 footer = line (codes "drain") ++ line (codes "settle 1000")
