@@ -1,0 +1,28 @@
+use Rattle.std.proofs.Common.{◌+◌, ◌∙◌, arith}
+use Rattle.std.proofs.lemmas.Result.{err_from_is_err_and}
+use Rattle.workload.specs.Generated.{transactions_text}
+use Rattle.workload.proofs.Prefixes.{prefix_in_next, prefix_of_all, prefix_whole, words_more, written_more}
+use Rattle.workload.proofs.generated.write_transactions.Goals as goal
+
+pub returns-in_err-lines-clause-part : goal.returns-in_err-lines-clause-part
+returns-in_err-lines-clause-part g c =
+    let l = c.loop-done in
+    let old = g.K.Sink.written c.args.sink.now in
+    let held = g.K.Sink.written l.sink in
+    rw (err_from_is_err_and c.from_residual.result c.from_residual.ensures.1).1
+    (prefix_of_all old held c.args.seed l.done c.args.size (omega (arith, c.loop-done-test.true)) (prefix_whole old held (transactions_text l.done c.args.seed) l.invariant.written))
+
+pub returns-in_err-write_all-clause-part : goal.returns-in_err-write_all-clause-part
+returns-in_err-write_all-clause-part g c =
+    let l = c.loop-done in
+    rw (err_from_is_err_and c.from_residual-in_err-write_all.result c.from_residual-in_err-write_all.ensures.1).1
+    (prefix_in_next c.args.seed l.done (l.done + 1) c.args.size l.words (g.K.Sink.written c.args.sink.now) (g.K.Sink.written l.sink) (g.K.Sink.written c.write_all.new.sink) c.as_bytes.result.now (omega arith) c.loop-done-test.true l.invariant.words l.invariant.written (c.as_bytes.ensures.value ∙ c.in_ok-lines.ensures.lines) c.in_err-write_all.ensures.part)
+
+pub loop-done-preserved : goal.loop-done-preserved
+loop-done-preserved g c =
+    let l = c.loop-done in
+    record {
+      words = words_more c.args.seed l.done (l.done + 1) l.words c.next_lines.new.words (omega arith) l.invariant.words c.in_ok-lines.ensures.moved;
+      written = written_more c.args.seed l.done (l.done + 1) l.words (g.K.Sink.written c.args.sink.now) (g.K.Sink.written l.sink) (g.K.Sink.written c.write_all.new.sink) c.as_bytes.result.now (omega arith) l.invariant.words l.invariant.written (c.as_bytes.ensures.value ∙ c.in_ok-lines.ensures.lines) c.in_ok-write_all.ensures.all;
+      counted = omega (arith, c.in_ok-write_all.ensures.never_falls, l.invariant.counted);
+    }
