@@ -1,7 +1,7 @@
 -- How many nodes are in the set of a list of nodes that all differ, and how many of them run.
-use Rattle.std.proofs.Common.{◌≡◌, ◌≢◌, ◌⊎◌, ◌↔◌, ◌<◌, ◌≤◌, ◌+◌, ◌-◌, ◌*◌, ◌/◌, ◌%◌, ◌^◌, ◌∙◌, ℕ, zero, suc, min, max, Bool, true, false, IsTrue, List, [], ◌∷◌, All, AllPairs, bit_and, bit_or, count_ones, cond, filter, fold, get_or, length, refl, sym, ap, subst, inl, inr, arith}
+use Rattle.std.proofs.Common.{◌≡◌, ◌≢◌, ◌⊎◌, ◌↔◌, ◌<◌, ◌≤◌, ◌+◌, ◌-◌, ◌*◌, ◌/◌, ◌%◌, ◌^◌, ◌∙◌, ℕ, zero, suc, min, max, Bool, true, false, IsTrue, List, [], ◌∷◌, All, AllPairs, bit_and, bit_or, count_ones, cond, filter, fold, get_or, length, refl, sym, ap, inl, inr, arith}
 use Rattle.std.proofs.lemmas.Bool.Decides.{nat_tests}
-use Rattle.std.proofs.lemmas.List.Elements.{All-head, All-nil, All-tail}
+use Rattle.std.proofs.lemmas.List.Elements.{All-head, All-tail}
 use Rattle.std.proofs.lemmas.Nat.{and_comm, and_le_l, bit_set_by_shift, ones_le_self, or_disjoint}
 use Rattle.std.proofs.lemmas.Nat.Bits.{and_pow, bit_at-lt, bit_at-pow_other, bit_at-suc, bit_at-zero, bit_at_and, bit_at_lowest, bit_at_or, same_from_bits, shr_and_one}
 use Rattle.std.specs.Int.{bit_at}
@@ -10,7 +10,6 @@ use lib.Count.{ones_step}
 use Rattle.mr_base.specs.Nodes.{IsMember, IsNode}
 use Rattle.mr_base.specs.declared.ids.NodeId.{NodeId}
 use Rattle.mr_base.specs.declared.nodes.NodeSet.{NodeSet}
-use Rattle.range_log.specs.Appends.{has_majority}
 use Rattle.range_replicas.specs.Voters.{MajorityIsMoreThanHalf, set_of, with_node}
 
 nothing : (n : ℕ) → 0 * n ≡ 0
@@ -50,7 +49,7 @@ and_or a b m = same_from_bits _ _ (λ i.
     = bit_at_and (bit_or a b) m i ∙ ap (λ (n : ℕ). min n z) (bit_at_or a b i) in
     let right : bit_at (bit_or (bit_and a m) (bit_and b m)) i ≡ max (min x z) (min y z)
     = bit_at_or (bit_and a m) (bit_and b m) i ∙ ap (λ (n : ℕ). max n (bit_at (bit_and b m) i)) (bit_at_and a m i)
-        ∙ ap (λ (n : ℕ). max (min x z) n) (bit_at_and b m i) in
+    ∙ ap (λ (n : ℕ). max (min x z) n) (bit_at_and b m i) in
     let same : min (max x y) z ≡ max (min x z) (min y z) = omega arith in
     left ∙ same ∙ sym right)
 
@@ -136,7 +135,7 @@ module _ (runs : NodeId → Bool) (running : NodeSet) where
       let others = All-tail IsNode n ns nodes in
       let here : bit_at set.0 (n.0 - 1) ≡ 0 = All-head (IsFree set) n ns free in
       let rest = counted ns (with_node set n) others (pairs_tail ◌≢◌ n ns apart)
-          (still_free set n ns one others (pairs_head ◌≢◌ n ns apart) (All-tail (IsFree set) n ns free)) (All-tail Runs n ns run) in
+      (still_free set n ns one others (pairs_head ◌≢◌ n ns apart) (All-tail (IsFree set) n ns free)) (All-tail Runs n ns run) in
       let more = or_bit (n.0 - 1) set.0 here in
       let more_up = or_bit_and (n.0 - 1) set.0 running.0 here in
       let is = bit_is running.0 (n.0 - 1) (runs n) (All-head Runs n ns run) in
