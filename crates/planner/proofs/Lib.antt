@@ -1,5 +1,6 @@
 pub mod CoveringLemmas
 pub mod PlaceLemmas
 pub mod PlaceOrder
+pub mod PlanLemmas
 pub mod PointTests
 pub mod ServedLemmas
