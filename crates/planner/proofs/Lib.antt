@@ -5,3 +5,5 @@ pub mod PlanLemmas
 pub mod ProgressLemmas
 pub mod PointTests
 pub mod ServedLemmas
+pub mod TableLemmas
+pub mod TurnLemmas
