@@ -1,4 +1,5 @@
 pub mod CoveringLemmas
+pub mod KeyedRowLemmas
 pub mod PlaceLemmas
 pub mod PlaceOrder
 pub mod PlanLemmas
