@@ -2,4 +2,6 @@ pub mod CoveringLemmas
 pub mod PlaceLemmas
 pub mod PlaceOrder
 pub mod PointTests
+pub mod PutLemmas
 pub mod ServedLemmas
+pub mod ThroughLemmas

@@ -2,7 +2,9 @@
 #![tactic(auto)]
 
 mod known_spans;
+mod looking;
 mod own_writes;
 
 pub use known_spans::KnownSpans;
+pub use looking::read_through;
 pub use own_writes::{Change, OwnWrites, Place};
