@@ -1,4 +1,5 @@
 pub mod CoveringLemmas
+pub mod FreshLemmas
 pub mod PlaceLemmas
 pub mod PlaceOrder
 pub mod PointTests

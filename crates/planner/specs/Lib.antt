@@ -1,2 +1,3 @@
+pub mod FreshAsks
 pub mod Numbered
 pub mod Putting

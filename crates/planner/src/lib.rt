@@ -1,6 +1,7 @@
 //! The planner of a list of statements: what was fed, what was written, and what is read through both.
 #![tactic(auto)]
 
+mod fresh_spans;
 mod known_spans;
 mod looking;
 mod own_writes;
