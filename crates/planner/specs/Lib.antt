@@ -1,3 +1,7 @@
 pub mod FreshAsks
 pub mod Numbered
+pub mod Phases
+pub mod Plans
+pub mod Progress
 pub mod Putting
+pub mod Turns
