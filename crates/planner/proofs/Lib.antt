@@ -1,3 +1,4 @@
+pub mod CheckLemmas
 pub mod CoveringLemmas
 pub mod FreshLemmas
 pub mod PlaceLemmas

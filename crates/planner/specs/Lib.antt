@@ -1,3 +1,4 @@
+pub mod Checks
 pub mod FreshAsks
 pub mod Numbered
 pub mod Phases
