@@ -3,6 +3,7 @@ pub mod CoveringLemmas
 pub mod FreshLemmas
 pub mod PlaceLemmas
 pub mod PlaceOrder
+pub mod PlanLemmas
 pub mod PointTests
 pub mod PutLemmas
 pub mod ServedLemmas

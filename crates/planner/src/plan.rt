@@ -177,7 +177,21 @@ impl Plan {
         ensures unfed { IfOk result (λ p. ⟦<Plan as Script>⟧.fed p ≡ []) }
         ensures not_done { IfOk result (λ p. ⟦<Plan as Script>⟧.done p ≡ false) }
     {
-        Err(Memory)
+        // every catalog is sound
+        let _ = catalog.tables();
+        let setting = PlanSetting::new(
+            catalog.clone_in(alloc)?,
+            ListOf::copy_of(alloc, first_ranges)?,
+            Bytes::from_slice(alloc, region)?,
+            list,
+        );
+        let state = first_state(alloc, setting.list());
+        Ok(Plan {
+            alloc,
+            setting,
+            known: KnownSpans::new(alloc),
+            state,
+        })
     }
 
     /// The answers of its statements, once `need` has answered that it is done.
