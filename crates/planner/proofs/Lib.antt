@@ -6,5 +6,6 @@ pub mod PlaceOrder
 pub mod PlanLemmas
 pub mod PointTests
 pub mod PutLemmas
+pub mod RowWriteLemmas
 pub mod ServedLemmas
 pub mod ThroughLemmas

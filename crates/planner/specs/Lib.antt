@@ -5,4 +5,5 @@ pub mod Phases
 pub mod Plans
 pub mod Progress
 pub mod Putting
+pub mod RowWrites
 pub mod Turns

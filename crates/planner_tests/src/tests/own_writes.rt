@@ -97,6 +97,22 @@ const LAST: [(u32, &str, &str, &str); 6] = [
     (2, "b", "2", "2"),
 ];
 
+/// The value of a text; `-` is none.
+fn value(alloc: Global, text: &str) -> Result<Option<Bytes>, Fail> {
+    if text == "-" {
+        return Ok(None);
+    }
+    Ok(Some(Bytes::from_slice(alloc, text.as_bytes())?))
+}
+
+/// Whether a value is that of a text.
+fn is_value(value: Option<&Bytes>, text: &str) -> bool {
+    match value {
+        None => text == "-",
+        Some(value) => value.as_slice() == text.as_bytes(),
+    }
+}
+
 fn has_last(
     alloc: Global,
     own: &OwnWrites,
@@ -106,16 +122,9 @@ fn has_last(
     last: &str,
 ) -> Result<bool, Fail> {
     let place = (RangeId(range), Bytes::from_slice(alloc, key.as_bytes())?);
-    let before = Bytes::from_slice(alloc, before.as_bytes())?;
-    let value = if before.as_slice() == b"-".as_slice() {
-        own.last_value(&place, None)
-    } else {
-        own.last_value(&place, Some(&before))
-    };
-    Ok(match value {
-        None => last == "-",
-        Some(value) => value.as_slice() == last.as_bytes(),
-    })
+    let before = value(alloc, before)?;
+    let found = own.last_value(&place, before.as_ref());
+    Ok(is_value(found, last))
 }
 
 #[test]

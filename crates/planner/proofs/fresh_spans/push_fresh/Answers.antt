@@ -16,9 +16,9 @@ returns c =
     (λ e.
     e
     ∙ ap (λ (l : List Ask). c.args.asks.now ++ l)
-      (ap (λ (a : Ask). a ∷ []) c.in_ok-looked_at.ensures
-      ∙ first_looked_at c.args.t.now c.args.terms.now c.args.partition.now [] c.in_ok-search.search.index c.in_ok-search.search.lookups c.in-Some.lookup.now
-        c.in_ok-search.ensures.index
-        (c.in_ok-search.ensures.lookups ∙ ap (λ (ps : List Partition). row_lookups [] (index_for c.args.t.now c.args.terms.now) (searched_partitions c.args.terms.now ps)) c.from_ref.ensures.value)
-        (sym (ap option_copied c.in-Some.is) ∙ c.first_of.ensures ∙ ap (λ (ls : List Lookup). slice_get ls 0) c.as_slice.ensures)))
+    (ap (λ (a : Ask). a ∷ []) c.in_ok-looked_at.ensures
+    ∙ first_looked_at c.args.t.now c.args.terms.now c.args.partition.now [] c.in_ok-search.search.index c.in_ok-search.search.lookups c.in-Some.lookup.now
+    c.in_ok-search.ensures.index
+    (c.in_ok-search.ensures.lookups ∙ ap (λ (ps : List Partition). row_lookups [] (index_for c.args.t.now c.args.terms.now) (searched_partitions c.args.terms.now ps)) c.from_ref.ensures.value)
+    (sym (ap option_copied c.in-Some.is) ∙ c.first_of.ensures ∙ ap (λ (ls : List Lookup). slice_get ls 0) c.as_slice.ensures)))
     c.push.ensures.ok
