@@ -4,6 +4,7 @@ pub mod FreshLemmas
 pub mod PlaceLemmas
 pub mod PlaceOrder
 pub mod PlanLemmas
+pub mod ProgressLemmas
 pub mod PointTests
 pub mod PutLemmas
 pub mod RowWriteLemmas

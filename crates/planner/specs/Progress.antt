@@ -1,5 +1,5 @@
 -- What is left of a list at work, as an evaluation over what is known. (This project's profile.)
-use Rattle.std.specs.Prelude.{◌≡◌, ℕ, ◌*◌, ⊤, List, [], ◌∷◌, ◌++◌, drop, length, Result, Ok, Err}
+use Rattle.std.specs.Prelude.{◌≡◌, ℕ, ◌+◌, ◌*◌, ⊤, List, [], ◌∷◌, ◌++◌, drop, length, Result, Ok, Err}
 use Rattle.mr_base.specs.declared.results.StatementResult.{StatementResult}
 use Rattle.mr_base.specs.declared.script.Fed.{Fed}
 use Rattle.mr_base.specs.declared.spans.Ask.{Ask}
@@ -37,10 +37,11 @@ rest_of_list l gateway reads own phase (s ∷ ss) =
     gives (record { answers = x.answer ∷ y.answers; own = y.own })
 
 -- What is left of a list of which so much was done.
+abbrev pub rest_in : Setting → List RowStatement → Progress → Reads → Evaluation ListOutcome
+rest_in s list p reads = answered p.answers (rest_of_list s.layout s.region reads p.own p.phase (drop p.done list))
+
 abbrev pub rest_of : Setting → Progress → Reads → Evaluation ListOutcome
-rest_of s p reads =
-    of_result s.list >>= λ list.
-    answered p.answers (rest_of_list s.layout s.region reads p.own p.phase (drop p.done list))
+rest_of s p reads = of_result s.list >>= λ list. rest_in s list p reads
 
 -- The phase may be one of the first of these statements.
 abbrev pub IsPhaseOfFirst : Contents → Phase → List RowStatement → Type 0
@@ -49,6 +50,25 @@ IsPhaseOfFirst c phase (s ∷ ss) = IsPhaseOf c s phase
 
 abbrev pub IsSoundProgress : Setting → Progress → Type 0
 IsSoundProgress s p = (list : List RowStatement) → s.list ≡ Ok list → IsPhaseOfFirst s.layout.catalog p.phase (drop p.done list)
+
+-- The next statement of a list needs a span and goes on behind it, or ends with a fault or done.
+abbrev pub IsStatementStep : Setting → List RowStatement → Reads → Progress → ListStep → Type 0
+IsStatementStep s list known p (steps.Asks ask q) =
+    IsPhaseOfFirst s.layout.catalog q.phase (drop q.done list)
+    × AreSame known (rest_in s list p) (rest_in s list q)
+    × IsNeeded (rest_in s list q known) ask
+IsStatementStep s list known p (steps.Faulty code) = rest_in s list p known ≡ faults code
+IsStatementStep s list known p (steps.Done q) =
+    (q.done ≡ p.done + 1) × (q.phase ≡ phases.Ready) × AreSame known (rest_in s list p) (rest_in s list q)
+
+-- Its statements go on, one after the other: to one that needs a span or has a fault, or with all done.
+abbrev pub IsStepIn : Setting → List RowStatement → Reads → Progress → ListStep → Type 0
+IsStepIn s list known p (steps.Asks ask q) =
+    IsPhaseOfFirst s.layout.catalog q.phase (drop q.done list)
+    × AreSame known (rest_in s list p) (rest_in s list q)
+    × IsNeeded (rest_in s list q known) ask
+IsStepIn s list known p (steps.Faulty code) = rest_in s list p known ≡ faults code
+IsStepIn s list known p (steps.Done q) = rest_in s list p known ≡ gives (record { answers = q.answers; own = q.own })
 
 -- A list needs a span and goes on behind it, or ends with a fault or with all done.
 abbrev pub IsListStep : Setting → Reads → Progress → ListStep → Type 0

@@ -7,8 +7,9 @@ ghost use Rattle.std.specs.Option.{option_copied, option_map_or};
 ghost use Rattle.std.specs.Ordering.{is_gt};
 ghost use Rattle.std.specs.declared.ops.Bound.TheVariants.{Excluded, Included};
 ghost use Rattle.row_locality.specs.Pairs.{key_value};
-ghost use Rattle.sql_eval.specs.OwnWrites.{addition, last_value, place_cmp, removal, values_written, with_write, write_at, writes_of};
+ghost use Rattle.sql_eval.specs.OwnWrites.{addition, last_value, place_cmp, removal, values_written, with_write, with_writes, write_at, writes_of};
 
+use crate::row_writes::RowWrite;
 use mr_base::{Ask, Bytes, CloneIn, ListOf, Memory, Pair, RangeId, Write};
 use std::alloc::Global;
 use std::collections::BTreeMap;
@@ -77,6 +78,19 @@ impl OwnWrites {
     {
         let Pair { key, value } = pair;
         self.write((range, key), None, Some(value))
+    }
+
+    /// More writes, one after the other.
+    pub(crate) fn make(&mut self, writes: &[RowWrite]) -> Result<(), Memory>
+        ensures { OnOk result (self.new ≡ with_writes self.old writes.now) }
+    {
+        for w in writes {
+            let key = w.key.clone_in(self.alloc)?;
+            let before = w.before.clone_in(self.alloc)?;
+            let after = w.after.clone_in(self.alloc)?;
+            self.write((w.range, key), before, after)?;
+        }
+        Ok(())
     }
 
     /// The value of a key that held this one before all of them.
