@@ -1,11 +1,12 @@
 pub mod CheckLemmas
 pub mod CoveringLemmas
 pub mod FreshLemmas
+pub mod InsertLemmas
 pub mod PlaceLemmas
 pub mod PlaceOrder
 pub mod PlanLemmas
-pub mod ProgressLemmas
 pub mod PointTests
+pub mod ProgressLemmas
 pub mod PutLemmas
 pub mod RowWriteLemmas
 pub mod ServedLemmas
