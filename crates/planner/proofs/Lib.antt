@@ -10,4 +10,6 @@ pub mod ProgressLemmas
 pub mod PutLemmas
 pub mod RowWriteLemmas
 pub mod ServedLemmas
+pub mod TableLemmas
 pub mod ThroughLemmas
+pub mod TurnLemmas

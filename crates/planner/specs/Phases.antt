@@ -138,6 +138,13 @@ IsSoundPhase c s (phases.Searching w) n = MayFind n s × IsSoundSearch c n.table
 IsSoundPhase c s (phases.Scanning w) n = MayFind n s × IsSoundScan c n.table w
 IsSoundPhase c s (phases.Checking check) n = ⊤
 
+-- Something of the statement was done.
+abbrev pub IsAtWork : Phase → Type 0
+IsAtWork phases.Ready = ⊥
+IsAtWork (phases.Searching w) = ⊤
+IsAtWork (phases.Scanning w) = ⊤
+IsAtWork (phases.Checking check) = ⊤
+
 -- The phase may be one of the statement.
 abbrev pub IsPhaseOf : Contents → RowStatement → Phase → Type 0
 IsPhaseOf c s phase = IfSome (named_table c (table_name s)) (IsSoundPhase c s phase)

@@ -12,7 +12,7 @@ use Rattle.sql_eval.specs.Execution.{Named}
 use Rattle.sql_eval.specs.Reads.{Reads, IsPartOf}
 use Rattle.sql_eval.specs.RowWords.{matches}
 use Rattle.sql_eval.specs.Search.{Evaluation, gives, faults, needs}
-use Rattle.planner.specs.Phases.{rest_of_search, rest_of_scan, rest_of_check, rest_of_table, rest_of_statement, scanned_rows, found_outcome, IsSoundSearch, IsSoundScan, IsSoundPhase, IsPhaseOf, AreKeyedRowsOf}
+use Rattle.planner.specs.Phases.{rest_of_search, rest_of_scan, rest_of_check, rest_of_table, rest_of_statement, scanned_rows, found_outcome, IsSoundSearch, IsSoundScan, IsSoundPhase, IsPhaseOf, IsAtWork, AreKeyedRowsOf}
 use Rattle.planner.specs.declared.phases.IndexSearch.{IndexSearch}
 use Rattle.planner.specs.declared.phases.RowScan.{RowScan}
 use Rattle.planner.specs.declared.phases.UniqueCheck.{UniqueCheck}
@@ -73,7 +73,8 @@ IsCheckStep known w (checks.Ends x) = AreSame known (λ reads. rest_of_check rea
 -- A statement without a fault of its own goes on to its first phase, or has a fault.
 abbrev pub IsBegun : Layout → List ℕ → Named → RowStatement → Begun → Type 0
 IsBegun l gateway n s (beginnings.Goes phase) =
-    IsSoundPhase l.catalog s phase n
+    IsAtWork phase
+    × IsSoundPhase l.catalog s phase n
     × ((reads : Reads) → checked_outcome l gateway reads s n ≡ rest_of_table l gateway reads s phase n)
 IsBegun l gateway n s (beginnings.Faulty code) = (reads : Reads) → checked_outcome l gateway reads s n ≡ faults code
 
@@ -81,6 +82,15 @@ IsBegun l gateway n s (beginnings.Faulty code) = (reads : Reads) → checked_out
 abbrev pub IsFound : Layout → Named → RowStatement → List KeyedRow → Found → Type 0
 IsFound l n s old (found.Goes check) = (reads : Reads) → found_outcome l reads n s old ≡ rest_of_check reads check
 IsFound l n s old (found.Faulty code) = (reads : Reads) → found_outcome l reads n s old ≡ faults code
+
+-- A statement on this table needs a span and goes on behind it, or ends with a fault or with what it comes to.
+abbrev pub IsTableTurn : Layout → List ℕ → Named → Reads → RowStatement → Phase → Turn → Type 0
+IsTableTurn l gateway n known s phase (turns.Asks ask next) =
+    IsSoundPhase l.catalog s next n
+    × AreSame known (λ reads. rest_of_table l gateway reads s phase n) (λ reads. rest_of_table l gateway reads s next n)
+    × IsNeeded (rest_of_table l gateway known s next n) ask
+IsTableTurn l gateway n known s phase (turns.Faulty code) = rest_of_table l gateway known s phase n ≡ faults code
+IsTableTurn l gateway n known s phase (turns.Ends x) = AreSame known (λ reads. rest_of_table l gateway reads s phase n) (λ reads. gives x)
 
 -- A statement needs a span and goes on behind it, or ends with a fault or with what it comes to.
 abbrev pub IsTurn : Layout → List ℕ → Reads → RowStatement → Phase → Turn → Type 0

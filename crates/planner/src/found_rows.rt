@@ -1,6 +1,6 @@
 //! What statements do with the rows that they found.
 
-ghost use Rattle.std.specs.Prelude.{◌≡◌, IfOk, Some, None};
+ghost use Rattle.std.specs.Prelude.{◌≡◌, [], IfOk, Some, None};
 ghost use Rattle.region_sql.specs.TextLiterals.{TextsAreUtf8};
 ghost use Rattle.sql_eval.specs.Execution.{named_table, table_name};
 ghost use Rattle.sql_eval.specs.Faults.{check_fault};
