@@ -13,3 +13,4 @@ pub mod ServedLemmas
 pub mod TableLemmas
 pub mod ThroughLemmas
 pub mod TurnLemmas
+pub mod UpdateLemmas
