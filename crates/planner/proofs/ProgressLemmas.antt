@@ -81,14 +81,13 @@ module _ (s : Setting) (list : List RowStatement) (known : Reads) (p : Progress)
       → IsStatementStep s list known p (steps.Asks ask (record p { phase = next }))
   unfolding behind
   statement_asks ask next t =
-      let q : Progress = record p { phase = next } in
-      (
+      let q : Progress = record p { phase = next } in (
         subst (IsPhaseOfFirst s.layout.catalog next) (sym here) t.0,
         (λ reads part. left reads
-        ∙ ap (behind s p rest reads) (t.1 (reads_through p.own reads) (through_part p.own known reads part))
-        ∙ sym (next_left s list q x rest reads here)),
+            ∙ ap (behind s p rest reads) (t.1 (reads_through p.own reads) (through_part p.own known reads part))
+            ∙ sym (next_left s list q x rest reads here)),
         subst (λ e. IsNeeded e ask) (sym (next_left s list q x rest known here))
-        (needed_behind s p rest known (rest_of_statement s.layout s.region (reads_through p.own known) x next) ask t.2),
+            (needed_behind s p rest known (rest_of_statement s.layout s.region (reads_through p.own known) x next) ask t.2),
       )
 
   pub asks_next : (ask : Ask) (next : Phase) → IsTurn s.layout s.region (reads_through p.own known) x p.phase (turns.Asks ask next)
@@ -145,15 +144,15 @@ module _ (s : Setting) (list : List RowStatement) (known : Reads) (first at : Pr
 -- ---- a list as it was read
 
 step_by : (s : Setting) (known : Reads) (p : Progress) (list : List RowStatement) (step : ListStep) → s.list ≡ Ok list → IsStepIn s list known p step → IsListStep s known p step
-step_by s known p list (steps.Asks ask q) e t =
-    (
-      (λ other f. let same : list ≡ other = same_list e f in subst (λ l. IsPhaseOfFirst s.layout.catalog q.phase (drop q.done l)) same t.0),
-      (λ reads part. rest_is p reads ∙ t.1 reads part ∙ sym (rest_is q reads)),
-      subst (λ x. IsNeeded x ask) (sym (rest_is q known)) t.2,
-    )
+step_by s known p list (steps.Asks ask q) e t = (
+  (λ other f. let same : list ≡ other = same_list e f in subst (λ l. IsPhaseOfFirst s.layout.catalog q.phase (drop q.done l)) same t.0),
+  (λ reads part. rest_is p reads ∙ t.1 reads part ∙ sym (rest_is q reads)),
+  subst (λ x. IsNeeded x ask) (sym (rest_is q known)) t.2,
+)
   where
     same_list : {other : List RowStatement} → s.list ≡ Ok list → s.list ≡ Ok other → list ≡ other
     same_list e f = cc
+
     rest_is : (r : Progress) (reads : Reads) → rest_of s r reads ≡ rest_in s list r reads
     rest_is r reads = ap (λ l. of_result l >>= λ xs. rest_in s xs r reads) e
 step_by s known p list (steps.Faulty code) e t = ap (λ l. of_result l >>= λ xs. rest_in s xs p known) e ∙ t

@@ -62,12 +62,11 @@ module _ (l : Layout) (gateway : List ℕ) (n : Named) (known : Reads) (s : RowS
   pub search_asks : (w v : IndexSearch) (ask : Ask) → MayFind n s → IsSearchStep l.catalog n.table known w (searches.Asks ask v)
       → IsTableTurn l gateway n known s (phases.Searching w) (turns.Asks ask (phases.Searching v))
   unfolding found_with
-  search_asks w v ask may t =
-      (
-        (may, t.0),
-        (λ reads part. ap (found_with reads) (t.1 (terms_of s) reads part)),
-        needed_if (is_update s) (rest_of_search known n.table (terms_of s) v) (λ old. found_outcome l known n s old) ask (t.2 (terms_of s)),
-      )
+  search_asks w v ask may t = (
+    (may, t.0),
+    (λ reads part. ap (found_with reads) (t.1 (terms_of s) reads part)),
+    needed_if (is_update s) (rest_of_search known n.table (terms_of s) v) (λ old. found_outcome l known n s old) ask (t.2 (terms_of s)),
+  )
 
   pub search_goes : (w : IndexSearch) (v : RowScan) → IsSearchStep l.catalog n.table known w (searches.Goes v)
       → AreSame known (λ reads. rest_of_table l gateway reads s (phases.Searching w) n) (λ reads. rest_of_table l gateway reads s (phases.Scanning v) n)
@@ -79,12 +78,11 @@ module _ (l : Layout) (gateway : List ℕ) (n : Named) (known : Reads) (s : RowS
   pub scan_asks : (w v : RowScan) (ask : Ask) → MayFind n s → IsScanStep l.catalog n.table known w (scans.Asks ask v)
       → IsTableTurn l gateway n known s (phases.Scanning w) (turns.Asks ask (phases.Scanning v))
   unfolding found_with
-  scan_asks w v ask may t =
-      (
-        (may, t.0),
-        (λ reads part. ap (found_with reads) (t.1 (terms_of s) reads part)),
-        needed_if (is_update s) (rest_of_scan known n.table (terms_of s) v) (λ old. found_outcome l known n s old) ask (t.2 (terms_of s)),
-      )
+  scan_asks w v ask may t = (
+    (may, t.0),
+    (λ reads part. ap (found_with reads) (t.1 (terms_of s) reads part)),
+    needed_if (is_update s) (rest_of_scan known n.table (terms_of s) v) (λ old. found_outcome l known n s old) ask (t.2 (terms_of s)),
+  )
 
   -- a statement that has read these rows
   abbrev pub HasRead : RowScan → List KeyedRow → Type 0
@@ -129,12 +127,11 @@ module _ (l : Layout) (gateway : List ℕ) (n : Named) (known : Reads) (s : RowS
     rest_is phase reads = ap (λ o. option_map_or (rest_of_table l gateway reads s phase) o (faults S42P01)) table
 
     statement_turn : (phase : Phase) (turn : Turn) → IsTableTurn l gateway n known s phase turn → IsTurn l gateway known s phase turn
-    statement_turn phase (turns.Asks ask next) t =
-        (
-          subst (λ o. IfSome o (IsSoundPhase l.catalog s next)) (sym table) t.0,
-          (λ reads part. rest_is phase reads ∙ t.1 reads part ∙ sym (rest_is next reads)),
-          subst (λ e. IsNeeded e ask) (sym (rest_is next known)) t.2,
-        )
+    statement_turn phase (turns.Asks ask next) t = (
+      subst (λ o. IfSome o (IsSoundPhase l.catalog s next)) (sym table) t.0,
+      (λ reads part. rest_is phase reads ∙ t.1 reads part ∙ sym (rest_is next reads)),
+      subst (λ e. IsNeeded e ask) (sym (rest_is next known)) t.2,
+    )
     statement_turn phase (turns.Faulty code) t = rest_is phase known ∙ t
     statement_turn phase (turns.Ends x) t = λ reads part. rest_is phase reads ∙ t reads part
 

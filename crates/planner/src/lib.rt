@@ -4,10 +4,12 @@
 
 mod beginnings;
 mod found_rows;
+mod fresh_spans;
 mod index_search;
 mod inserts;
 mod keyed_rows;
 mod known_spans;
+mod looking;
 mod own_writes;
 mod phases;
 mod plan;
@@ -19,5 +21,6 @@ mod turns;
 mod unique_check;
 
 pub use known_spans::KnownSpans;
+pub use looking::read_through;
 pub use own_writes::{Change, OwnWrites, Place};
 pub use plan::{Plan, plans_are_executed};

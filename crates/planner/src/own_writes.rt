@@ -1,16 +1,20 @@
 //! The writes that a list's statements made so far.
 
-ghost use Rattle.std.specs.Prelude.{◌≡◌, ◌++◌, [], IfOk, OnOk, OnErr, option_to_list};
+ghost use Rattle.std.specs.Prelude.{◌≡◌, ◌++◌, [], false, IfOk, OnOk, OnErr, map, option_to_list};
+ghost use Rattle.std.specs.BTreeMap.Range.{entries_between};
 ghost use Rattle.std.specs.FinMap.Entries.{find};
 ghost use Rattle.std.specs.Option.{option_copied, option_map_or};
+ghost use Rattle.std.specs.Ordering.{is_gt};
+ghost use Rattle.std.specs.declared.ops.Bound.TheVariants.{Excluded, Included};
 ghost use Rattle.row_locality.specs.Pairs.{key_value};
-ghost use Rattle.sql_eval.specs.OwnWrites.{addition, last_value, place_cmp, removal, with_write, with_writes, write_at, writes_of};
+ghost use Rattle.sql_eval.specs.OwnWrites.{addition, last_value, place_cmp, removal, values_written, with_write, with_writes, write_at, writes_of};
 
 use crate::row_writes::RowWrite;
-use mr_base::{Bytes, CloneIn, ListOf, Memory, Pair, RangeId, Write};
+use mr_base::{Ask, Bytes, CloneIn, ListOf, Memory, Pair, RangeId, Write};
 use std::alloc::Global;
 use std::collections::BTreeMap;
 use std::marker::Model;
+use std::ops::Bound::{Excluded, Included};
 
 /// A key of a range.
 pub type Place = (RangeId, Bytes);
@@ -99,6 +103,22 @@ impl OwnWrites {
         }
     }
 
+    /// The keys of a span that were written, each with its last value, in the order of keys.
+    pub fn values_in(
+        &self,
+        alloc: Global,
+        ask: &Ask,
+    ) -> Result<ListOf<(Bytes, Option<Bytes>)>, Memory>
+        ensures { IfOk result (λ values. values ≡ values_written self.now ask.now) }
+    {
+        if !(ask.span.lo < ask.span.hi) {
+            return Ok(ListOf::new(alloc));
+        }
+        let from = (ask.range, ask.span.lo.clone_in(alloc)?);
+        let to = (ask.range, ask.span.hi.clone_in(alloc)?);
+        values_between(alloc, &self.places, &from, &to)
+    }
+
     /// The keys whose last value isn't their first, each with the last, in the order of ranges and keys.
     pub fn writes(&self, alloc: Global) -> Result<ListOf<Write>, Memory>
         ensures { IfOk result (λ writes. writes ≡ writes_of self.now) }
@@ -135,6 +155,24 @@ impl OwnWrites {
             None => Ok(before),
         }
     }
+}
+
+/// The keys from one place up to another, each with its last value.
+fn values_between(
+    alloc: Global,
+    places: &BTreeMap<Place, Change>,
+    from: &Place,
+    to: &Place,
+) -> Result<ListOf<(Bytes, Option<Bytes>)>, Memory>
+    requires { is_gt (place_cmp from.now to.now) ≡ false }
+    ensures { IfOk result (λ values. values ≡ map (λ x. (x.0.1, x.1.last))
+        (entries_between place_cmp (Included from.now) (Excluded to.now) places.now.entries)) }
+{
+    let mut values = ListOf::new(alloc);
+    for (place, change) in places.range((Included(from), Excluded(to))) {
+        values.push((place.1.clone_in(alloc)?, change.last.clone_in(alloc)?))?;
+    }
+    Ok(values)
 }
 
 /// Adds the write of a key, where its last value isn't its first.

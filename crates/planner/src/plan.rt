@@ -170,9 +170,9 @@ impl Plan {
         requires ranges { AreRangesOf (record { catalog = catalog.now; first_ranges = first_ranges.now }) }
         requires texts { HaveTexts list }
         ensures program { IfOk result (λ p. ⟦<Plan as Script>⟧.program p ≡ program_of (record {
-            layout = record { catalog = catalog.now; first_ranges = first_ranges.now };
-            region = region.now;
-            list = list;
+          layout = record { catalog = catalog.now; first_ranges = first_ranges.now };
+          region = region.now;
+          list = list;
         })) }
         ensures unfed { IfOk result (λ p. ⟦<Plan as Script>⟧.fed p ≡ []) }
         ensures not_done { IfOk result (λ p. ⟦<Plan as Script>⟧.done p ≡ false) }

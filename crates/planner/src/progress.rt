@@ -121,10 +121,10 @@ fn after_statement(
     last: StatementOutcome,
 ) -> Result<Progress, Memory>
     ensures { IfOk result (λ p. p ≡ record {
-        done = done;
-        own = with_writes own last.writes;
-        answers = answers ++ last.answer ∷ [];
-        phase = phases.Ready;
+      done = done;
+      own = with_writes own last.writes;
+      answers = answers ++ last.answer ∷ [];
+      phase = phases.Ready;
     }) }
 {
     let StatementOutcome { answer, writes } = last;

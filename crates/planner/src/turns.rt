@@ -177,9 +177,9 @@ fn with_rows(
     requires rows { AreKeyedRowsOf setting.now.layout.catalog n.now.table.now rows }
     ensures { IfOk result (λ turn. (w : RowScan)
         → (AreSame (reads_through own.now (served_reads known.now)) (λ reads. rest_of_scan reads n.now.table.now (terms_of s.now) w)
-            (λ reads. gives (scanned_rows n.now.table.now (terms_of s.now) rows [])))
+        (λ reads. gives (scanned_rows n.now.table.now (terms_of s.now) rows [])))
         → IsTableTurn setting.now.layout setting.now.region (named n.now)
-            (reads_through own.now (served_reads known.now)) s.now (phases.Scanning w) turn) }
+        (reads_through own.now (served_reads known.now)) s.now (phases.Scanning w) turn) }
 {
     match found(alloc, setting, n, s, rows)? {
         Found::Faulty(code) => Ok(Turn::Faulty(code)),

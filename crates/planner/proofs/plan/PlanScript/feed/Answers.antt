@@ -17,11 +17,10 @@ add-requires c =
 pub invariant_of-self : goal.invariant_of-self
 invariant_of-self c =
     let need : need_of (evaluation c.self.inside.setting (served_reads c.self.inside.known)) ≡ AskFor c.args.ask.now =
-    subst (λ (p : Planned). need_of (evaluation p.setting (served_reads p.fed)) ≡ AskFor c.args.ask.now) (sym c.self.view_is) c.requires in
-    (
+    subst (λ (p : Planned). need_of (evaluation p.setting (served_reads p.fed)) ≡ AskFor c.args.ask.now) (sym c.self.view_is) c.requires in (
       c.self.invariant.0,
       state_after c.self.inside.setting c.self.inside.known c.add.new.self c.args.ask.now c.args.rows.now need c.add.result c.self.inside.state
-      c.add.ensures.added c.add.ensures.err c.self.invariant.1,
+          c.add.ensures.added c.add.ensures.err c.self.invariant.1,
     )
 
 pub returns-clause-nearer : goal.returns-clause-nearer
