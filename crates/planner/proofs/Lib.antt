@@ -1,3 +1,4 @@
+pub mod BeginningLemmas
 pub mod CheckLemmas
 pub mod CoveringLemmas
 pub mod FreshLemmas
@@ -10,6 +11,7 @@ pub mod PointTests
 pub mod ProgressLemmas
 pub mod PutLemmas
 pub mod RowWriteLemmas
+pub mod SearchLemmas
 pub mod ServedLemmas
 pub mod TableLemmas
 pub mod ThroughLemmas

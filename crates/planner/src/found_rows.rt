@@ -66,7 +66,7 @@ pub(crate) fn found_update(
         Err(EvalFault::Memory) => return Err(Memory),
         Err(EvalFault::State(code)) => return Ok(Found::Faulty(code)),
     };
-    let replaced = rows.matching(alloc, n.table, terms)?;
+    let replaced = rows.into_matching(n.table, terms);
     let check = check_of_changed(alloc, setting, n, table, replaced, changes)?;
     Ok(Found::Goes(check))
 }
