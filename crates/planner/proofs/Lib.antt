@@ -9,7 +9,9 @@ pub mod PointTests
 pub mod ProgressLemmas
 pub mod PutLemmas
 pub mod RowWriteLemmas
+pub mod ScanLemmas
 pub mod ServedLemmas
+pub mod SettingLemmas
 pub mod TableLemmas
 pub mod ThroughLemmas
 pub mod TurnLemmas

@@ -6,4 +6,5 @@ pub mod Plans
 pub mod Progress
 pub mod Putting
 pub mod RowWrites
+pub mod Scans
 pub mod Turns
