@@ -2,6 +2,7 @@ pub mod CheckLemmas
 pub mod CoveringLemmas
 pub mod FreshLemmas
 pub mod InsertLemmas
+pub mod KeyedRowLemmas
 pub mod PlaceLemmas
 pub mod PlaceOrder
 pub mod PlanLemmas

@@ -66,14 +66,20 @@ impl KeyedRows {
     }
 
     /// The rows that match, with their keys.
-    pub(crate) fn matching(
-        &self,
-        alloc: Global,
-        t: &Table,
-        terms: &[Term],
-    ) -> Result<KeyedRows, Memory>
-        ensures { IfOk result (λ rows. rows ≡ filter (λ x. matches t.now terms.now x.1) self.now) }
+    pub(crate) fn into_matching(self, t: &Table, terms: &[Term]) -> KeyedRows
+        ensures { result ≡ filter (λ x. matches t.now terms.now x.1) self }
     {
-        Err(Memory)
+        KeyedRows {
+            rows: matching(self.rows, t, terms),
+        }
     }
+}
+
+/// The rows that match.
+fn matching(rows: BTreeMap<Bytes, Row>, t: &Table, terms: &[Term]) -> BTreeMap<Bytes, Row>
+    ensures { result.entries ≡ filter (λ x. matches t.now terms.now x.1) rows.entries }
+{
+    let mut rows = rows;
+    rows.retain(|_, row| matches(t, terms, row.as_slice()));
+    rows
 }
