@@ -40,7 +40,7 @@ pub(crate) fn scan_on(
     t: &Table,
     w: RowScan,
 ) -> Result<ScanStep, Memory>
-    requires regions { AllByRecursion (λ x. IsRegionFor t.now x.partition.region) w.lookups }
+    requires { AllByRecursion (λ x. IsRegionFor t.now x.partition.region) w.lookups }
     ensures { IfOk result (λ step. (c : Contents) → IsSoundScan c t.now w
         → IsScanStep c t.now (reads_through own.now (served_reads known.now)) w step) }
 {
