@@ -1,3 +1,4 @@
+pub mod BeginningLemmas
 pub mod CheckLemmas
 pub mod CoveringLemmas
 pub mod FreshLemmas
@@ -11,6 +12,7 @@ pub mod ProgressLemmas
 pub mod PutLemmas
 pub mod RowWriteLemmas
 pub mod ScanLemmas
+pub mod SearchLemmas
 pub mod ServedLemmas
 pub mod SettingLemmas
 pub mod TableLemmas

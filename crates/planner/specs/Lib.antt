@@ -7,4 +7,5 @@ pub mod Progress
 pub mod Putting
 pub mod RowWrites
 pub mod Scans
+pub mod Searches
 pub mod Turns

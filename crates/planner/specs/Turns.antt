@@ -7,7 +7,7 @@ use Rattle.region_sql.specs.declared.row_statements.Term.{Term}
 use Rattle.descriptors.specs.declared.table.Table.{Table}
 use Rattle.descriptors.specs.Contents.{Contents}
 use Rattle.row_locality.specs.Plain.{Layout}
-use Rattle.sql_eval.specs.Evaluation.{KeyedRow, Outcome, Setting, checked_outcome}
+use Rattle.sql_eval.specs.Evaluation.{KeyedRow, Outcome, Setting, checked_outcome, found_rows, partitions_of}
 use Rattle.sql_eval.specs.Execution.{Named}
 use Rattle.sql_eval.specs.Reads.{Reads, IsPartOf}
 use Rattle.sql_eval.specs.RowWords.{matches}
@@ -69,6 +69,17 @@ IsCheckStep known w (checks.Faulty code) = rest_of_check known w ≡ faults code
 IsCheckStep known w (checks.Ends x) = AreSame known (λ reads. rest_of_check reads w) (λ reads. gives x)
 
 -- ---- statements
+
+-- The first phase of a statement that finds rows by these terms.
+abbrev pub IsFirstPhase : Layout → List ℕ → Named → List Term → Phase → Type 0
+IsFirstPhase l gateway n terms phases.Ready = ⊥
+IsFirstPhase l gateway n terms (phases.Searching w) =
+    IsSoundSearch l.catalog n.table w
+    × ((reads : Reads) → found_rows reads n.table gateway (partitions_of l n) terms ≡ rest_of_search reads n.table terms w)
+IsFirstPhase l gateway n terms (phases.Scanning w) =
+    IsSoundScan l.catalog n.table w
+    × ((reads : Reads) → found_rows reads n.table gateway (partitions_of l n) terms ≡ rest_of_scan reads n.table terms w)
+IsFirstPhase l gateway n terms (phases.Checking check) = ⊥
 
 -- A statement without a fault of its own goes on to its first phase, or has a fault.
 abbrev pub IsBegun : Layout → List ℕ → Named → RowStatement → Begun → Type 0

@@ -1,5 +1,7 @@
 //! The phases of a statement.
 
+ghost use Rattle.std.specs.Prelude.{◌≡◌, drop};
+
 use crate::keyed_rows::KeyedRows;
 use crate::row_writes::StatementOutcome;
 use local_search::Lookup;
@@ -59,4 +61,14 @@ pub(crate) enum Begun {
 pub(crate) enum Found {
     Goes(UniqueCheck),
     Faulty(SqlState),
+}
+
+/// The look-ups behind so many.
+pub(crate) fn rest_of(lookups: &[Lookup], passed: usize) -> &[Lookup]
+    ensures { result.now ≡ drop passed lookups.now }
+{
+    if passed < lookups.len() {
+        return &lookups[passed..];
+    }
+    &[]
 }

@@ -13,7 +13,7 @@ use crate::keyed_rows::KeyedRows;
 use crate::known_spans::KnownSpans;
 use crate::looking::read_through;
 use crate::own_writes::OwnWrites;
-use crate::phases::UniqueCheck;
+use crate::phases::{UniqueCheck, rest_of};
 use crate::row_writes::StatementOutcome;
 use local_search::Lookup;
 use mr_base::{Ask, Bytes, CloneIn, Memory, Pair, SqlState};
@@ -82,16 +82,6 @@ fn end_of(w: UniqueCheck) -> CheckStep
         return CheckStep::Faulty(SqlState::S23505);
     }
     CheckStep::Ends(w.outcome)
-}
-
-/// The look-ups behind so many.
-fn rest_of(lookups: &[Lookup], passed: usize) -> &[Lookup]
-    ensures { result.now ≡ drop passed lookups.now }
-{
-    if passed < lookups.len() {
-        return &lookups[passed..];
-    }
-    &[]
 }
 
 /// Goes through look-ups as far as what is known allows.

@@ -10,5 +10,5 @@ returns c =
     let answer =
     c.in_ok-answer.ensures.answer
     ∙ ap (λ (rows : List (List Datum)). rows_answer (shown_rows c.args.t.now c.args.wanted.now rows))
-      (all_match c.args.t.now c.args.terms.now c.args.rows c.into_matching.result c.as_slice.result.now c.into_matching.ensures (c.as_slice.ensures ∙ c.in_ok-found.ensures)) in
+    (all_match c.args.t.now c.args.terms.now c.args.rows c.into_matching.result c.as_slice.result.now c.into_matching.ensures (c.as_slice.ensures ∙ c.in_ok-found.ensures)) in
     λ i. record { answer = answer i; writes = c.new.ensures i }
