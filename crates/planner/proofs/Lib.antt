@@ -11,8 +11,10 @@ pub mod PointTests
 pub mod ProgressLemmas
 pub mod PutLemmas
 pub mod RowWriteLemmas
+pub mod ScanLemmas
 pub mod SearchLemmas
 pub mod ServedLemmas
+pub mod SettingLemmas
 pub mod TableLemmas
 pub mod ThroughLemmas
 pub mod TurnLemmas

@@ -158,8 +158,7 @@ each_left P n xs ys e a = subst (AllByRecursion P) (sym e) (each_drop P n xs a)
 pub asks_next : (c : Contents) (t : Table) (known : Reads) (w v : IndexSearch) (i : ℕ) (ask : Ask) → v ≡ record w { passed = w.passed + i } → IsSoundSearch c t w
     → IsSought t w.index known (drop w.passed w.lookups) (sought.Asks i ask) → IsSearchStep c t known w (searches.Asks ask v)
 asks_next c t known w v i ask e sound s =
-    subst (λ (x : IndexSearch). IsSearchStep c t known w (searches.Asks ask x)) (sym e)
-    (
+    subst (λ (x : IndexSearch). IsSearchStep c t known w (searches.Asks ask x)) (sym e) (
       record { index = sound.index; of_index = sound.of_index; lookups = sound.lookups },
       (λ terms reads part. s.1 terms reads part ∙ ap (λ (ls : List Lookup). sought_rows t terms w.index ls reads) (drop-drop i w.passed w.lookups)),
       (λ terms. subst (λ (ls : List Lookup). IsNeeded (sought_rows t terms w.index ls known) ask) (drop-drop i w.passed w.lookups) (s.2 terms)),
@@ -169,8 +168,7 @@ pub goes_on : (c : Contents) (t : Table) (known : Reads) (w : IndexSearch) (v : 
     → v ≡ record { is_first = false; lookups = option_to_list row; passed = 0; rows = [] } → IsSoundSearch c t w
     → IsSought t w.index known (drop w.passed w.lookups) (sought.Leads row) → IsSearchStep c t known w (searches.Goes v)
 goes_on c t known w v row e sound s =
-    subst (λ (x : RowScan). IsSearchStep c t known w (searches.Goes x)) (sym e)
-    (
+    subst (λ (x : RowScan). IsSearchStep c t known w (searches.Goes x)) (sym e) (
       record { lookups = s.1 c (each_drop (IsLookupFor c t) w.passed w.lookups sound.lookups); rows = tt },
       (λ terms reads part. s.0 terms reads part),
     )

@@ -2,6 +2,7 @@
 use Rattle.std.proofs.Common.{◌≡◌, Bool, true, false, cond, List, [], ◌∷◌, ◌++◌, filter, map, refl, sym, ap, subst, ◌∙◌}
 use Rattle.std.specs.Prelude.{ℕ, All, Some, None, length, Result, Ok, Err}
 use Rattle.std.specs.List.{AllByRecursion, AllZip}
+use Rattle.std.proofs.lemmas.List.{length-map}
 use Rattle.std.proofs.lemmas.List.Elements.{All-from_recursion, recursion_from_All}
 use Rattle.mr_base.specs.declared.results.StatementResult.{StatementResult}
 use Rattle.mr_base.specs.declared.results.Verb.TheVariants as verbs
@@ -24,7 +25,7 @@ use Rattle.sql_eval.specs.Laws.{IsSoundSetting}
 use Rattle.sql_eval.specs.Lookups.{changed_row_lookups}
 use Rattle.sql_eval.specs.Reads.{Reads}
 use Rattle.sql_eval.specs.RowWords.{changed_row, changed_rows, matches}
-use Rattle.sql_eval.specs.Search.{Evaluation, faults, gives, ◌>>=◌, of_result}
+use Rattle.sql_eval.specs.Search.{Evaluation, faults, gives, ◌>>=◌, of_result, search}
 use Rattle.answer_laws.proofs.ChangedRows.{IsTarget, changed_suits}
 use Rattle.answer_laws.proofs.ColumnValues.{Suits}
 use Rattle.answer_laws.proofs.ExecutedLists.{IsSoundNamed, sound_named}
@@ -34,6 +35,7 @@ use Rattle.answer_laws.proofs.Lists.{each_filter, each_weaker}
 use Rattle.answer_laws.proofs.NoFaults.{first_none, none_faulty}
 use Rattle.planner.proofs.InsertLemmas.{check_of, free_is_checked}
 use Rattle.planner.specs.Phases.{AreKeyedRowsOf, found_outcome, rest_of_check, scanned_rows}
+use Rattle.planner.specs.RowWrites.{unchecked}
 use Rattle.planner.specs.declared.phases.UniqueCheck.{UniqueCheck}
 
 abbrev Row : Type 0
@@ -42,7 +44,7 @@ Row = List Datum
 -- ---- the rows that it finds
 
 -- the rows that match, with their keys or without
-pub matching_rows : (t : Table) (terms : List Term) (rows : List KeyedRow) → filter (matches t terms) (rows_of rows) ≡ rows_of (scanned_rows t terms rows [])
+matching_rows : (t : Table) (terms : List Term) (rows : List KeyedRow) → filter (matches t terms) (rows_of rows) ≡ rows_of (scanned_rows t terms rows [])
 matching_rows t terms [] = refl
 matching_rows t terms (x ∷ rows) =
     elim (matches t terms x.1) as (λ b. cond b (x.1 ∷ filter (matches t terms) (rows_of rows)) (filter (matches t terms) (rows_of rows)) ≡ rows_of (cond b (x ∷ scanned_rows t terms rows []) (scanned_rows t terms rows []))) [
@@ -50,17 +52,31 @@ matching_rows t terms (x ∷ rows) =
       | false ↦ matching_rows t terms rows
     ]
 
+twice_by : {X : Type 0} (f : X → Bool) (x : X) (xs : List X) (b : Bool) → f x ≡ b → filter f (filter f xs) ≡ filter f xs → filter f (cond b (x ∷ filter f xs) (filter f xs)) ≡ cond b (x ∷ filter f xs) (filter f xs)
+twice_by f x xs true e h = ap (λ (b : Bool). cond b (x ∷ filter f (filter f xs)) (filter f (filter f xs))) e ∙ ap (λ l. x ∷ l) h
+twice_by f x xs false e h = h
+
+twice : {X : Type 0} (f : X → Bool) (xs : List X) → filter f (filter f xs) ≡ filter f xs
+twice f [] = refl
+twice f (x ∷ xs) = twice_by f x xs (f x) refl (twice f xs)
+
+-- all of them match
+pub all_match : (t : Table) (terms : List Term) (rows found : List KeyedRow) (old : List (List Datum)) → found ≡ scanned_rows t terms rows [] → old ≡ rows_of found
+    → filter (matches t terms) old ≡ rows_of (scanned_rows t terms rows [])
+all_match t terms rows found old f o =
+    ap (filter (matches t terms)) o
+    ∙ matching_rows t terms found
+    ∙ ap rows_of (ap (filter (λ x. matches t terms x.1)) f ∙ twice (λ x. matches t terms x.1) rows)
+
 each_row : (c : Contents) (t : Table) (rows : List KeyedRow) → AreKeyedRowsOf c t rows → AllByRecursion (IsRowOf c t) (rows_of rows)
 each_row c t [] h = tt
 each_row c t (x ∷ rows) h = (h.0, each_row c t rows h.1)
 
-matching_each : (c : Contents) (t : Table) (terms : List Term) (rows : List KeyedRow) → AreKeyedRowsOf c t rows → AllByRecursion (IsRowOf c t) (filter (matches t terms) (rows_of rows))
-matching_each c t terms rows h = each_filter (IsRowOf c t) (matches t terms) (rows_of rows) (each_row c t rows h)
-
-pub matching_are_rows : (c : Contents) (t : Table) (terms : List Term) (rows : List KeyedRow) (read old : List Row) → AreKeyedRowsOf c t rows → read ≡ rows_of rows
-    → old ≡ filter (matches t terms) read → All (IsRowOf c t) old
-matching_are_rows c t terms rows read old h r e =
-    subst (All (IsRowOf c t)) (sym (e ∙ ap (filter (matches t terms)) r)) (All-from_recursion (IsRowOf c t) (filter (matches t terms) (rows_of rows)) (matching_each c t terms rows h))
+pub found_are_rows : (c : Contents) (t : Table) (terms : List Term) (rows : List KeyedRow) (old : List Row) → AreKeyedRowsOf c t rows
+    → old ≡ rows_of (scanned_rows t terms rows []) → All (IsRowOf c t) old
+found_are_rows c t terms rows old h e =
+    subst (All (IsRowOf c t)) (sym e)
+    (All-from_recursion (IsRowOf c t) (rows_of (scanned_rows t terms rows [])) (each_row c t (scanned_rows t terms rows []) (each_filter (λ x. IsRowOf c t x.1) (λ x. matches t terms x.1) rows h)))
 
 -- ---- the rows that it makes of them
 
@@ -101,12 +117,9 @@ changed_are_rows s n table targets terms olds changed sound named' texts checked
 
 -- ---- UPDATE
 
-module _ (l : Layout) (n : Named) (table : List ℕ) (targets : List Target) (terms : List Term) (rows : List KeyedRow) (read old : List Row) (r : read ≡ rows_of rows) (o : old ≡ filter (matches n.table terms) read) where
+module _ (l : Layout) (n : Named) (table : List ℕ) (targets : List Target) (terms : List Term) (rows : List KeyedRow) (old : List Row) (o : old ≡ rows_of (scanned_rows n.table terms rows [])) where
   abbrev found : List KeyedRow
   found = scanned_rows n.table terms rows []
-
-  old_are : old ≡ rows_of found
-  old_are = o ∙ ap (filter (matches n.table terms)) r ∙ matching_rows n.table terms rows
 
   abbrev outcome_by : Reads → List Row → Result (List Row) SqlState → Evaluation Outcome
   outcome_by reads olds result =
@@ -115,11 +128,11 @@ module _ (l : Layout) (n : Named) (table : List ℕ) (targets : List Target) (te
       gives (record { answer = count_answer verbs.Update (length new); writes = removals l n olds ++ additions l n new })
 
   found_by : (reads : Reads) → found_outcome l reads n (Update table targets terms) found ≡ outcome_by reads old (changed_rows n.table targets old)
-  found_by reads = ap (λ (olds : List Row). outcome_by reads olds (changed_rows n.table targets olds)) (sym old_are)
+  found_by reads = ap (λ (olds : List Row). outcome_by reads olds (changed_rows n.table targets olds)) (sym o)
 
-  pub update_faulty : (code : SqlState) → changed_rows n.table targets (filter (matches n.table terms) read) ≡ Err code → (reads : Reads)
+  pub update_faulty : (code : SqlState) → changed_rows n.table targets old ≡ Err code → (reads : Reads)
       → found_outcome l reads n (Update table targets terms) found ≡ faults code
-  update_faulty code e = λ reads. found_by reads ∙ ap (outcome_by reads old) (ap (changed_rows n.table targets) o ∙ e)
+  update_faulty code e = λ reads. found_by reads ∙ ap (outcome_by reads old) e
 
   pub update_checked : (new : List Row) (answer : StatementResult) (replaced : List KeyedRow) (check : UniqueCheck) → changed_rows n.table targets old ≡ Ok new
       → answer ≡ count_answer verbs.Update (length new) → replaced ≡ found
@@ -131,3 +144,17 @@ module _ (l : Layout) (n : Named) (table : List ℕ) (targets : List Target) (te
       found_by reads ∙ ap (outcome_by reads old) e
       ∙ free_is_checked reads n.table found lookups new (outcome (count_answer verbs.Update (length new)))
       ∙ ap (rest_of_check reads) (sym (k ∙ (λ i. check_of n.table (f i) lookups new (outcome (a i)))))
+
+-- ---- statements without new rows
+
+pub unchecked_gives : (x : Outcome) (reads : Reads) → rest_of_check reads (unchecked x) ≡ gives x
+unfolding search
+unchecked_gives x reads = refl
+
+pub found_unchecked : (l : Layout) (n : Named) (s : RowStatement) (rows : List KeyedRow) (x y : Outcome) (check : UniqueCheck) → check ≡ unchecked x → x ≡ y
+    → ((reads : Reads) → found_outcome l reads n s rows ≡ gives y) → (reads : Reads) → found_outcome l reads n s rows ≡ rest_of_check reads check
+found_unchecked l n s rows x y check e f g = λ reads.
+    g reads ∙ sym (ap (rest_of_check reads) (e ∙ ap unchecked f) ∙ unchecked_gives y reads)
+
+pub count_of : (rows : List KeyedRow) → length (rows_of rows) ≡ length rows
+count_of rows = length-map rows (λ (x : KeyedRow). x.1)

@@ -6,5 +6,6 @@ pub mod Plans
 pub mod Progress
 pub mod Putting
 pub mod RowWrites
+pub mod Scans
 pub mod Searches
 pub mod Turns

@@ -1,14 +1,15 @@
 -- The writes of rows, and the ranges in which they live. (This project's profile.)
-use Rattle.std.specs.Prelude.{◌≡◌, ℕ, Bool, true, false, List, flat_map, map, position, Option, Some, option_and_then, unwrap_or}
+use Rattle.std.specs.Prelude.{◌≡◌, ℕ, Bool, true, false, List, [], flat_map, map, position, Option, Some, option_and_then, unwrap_or}
 use Rattle.std.specs.Str.{bytes_eq}
 use Rattle.mr_base.specs.declared.ids.RangeId.{RangeId}
 use Rattle.mr_base.specs.declared.rows.Datum.{Datum}
 use Rattle.descriptors.specs.Sound.{IsSoundCatalog}
 use Rattle.row_locality.specs.Pairs.{KeyValue, pairs_of}
 use Rattle.row_locality.specs.Plain.{Layout, Partition, range_of}
-use Rattle.sql_eval.specs.Evaluation.{partitions_of}
+use Rattle.sql_eval.specs.Evaluation.{Outcome, partitions_of}
 use Rattle.sql_eval.specs.Execution.{Named, named_table}
 use Rattle.sql_eval.specs.OwnWrites.{OwnWrite, addition, removal}
+use Rattle.planner.specs.declared.phases.UniqueCheck.{UniqueCheck}
 
 -- A pair is added or removed.
 abbrev pub write_by : Bool → RangeId → KeyValue → OwnWrite
@@ -32,3 +33,7 @@ pub record ArePartitionsOf (l : Layout) (n : Named) (ps : List Partition) : Type
   pub name : List ℕ
   pub table : named_table l.catalog name ≡ Some n
   pub partitions : ps ≡ partitions_of l n
+
+-- The check of a statement without new rows.
+abbrev pub unchecked : Outcome → UniqueCheck
+unchecked x = record { lookups = []; passed = 0; replaced = []; has_twins = false; outcome = x }

@@ -110,12 +110,7 @@ fn seek(
             return Ok(Sought::Asks(i, lookup.ask().clone_in(alloc)?));
         };
         if !pairs.is_empty() {
-            return Ok(Sought::Leads(row_lookup(
-                alloc,
-                t,
-                lookup,
-                pairs.as_slice(),
-            )?));
+            return Ok(Sought::Leads(row_lookup(alloc, t, lookup, pairs.as_slice())?));
         }
     }
     Ok(Sought::Leads(None))

@@ -8,7 +8,7 @@ ghost use Rattle.sql_eval.specs.Laws.{IsSoundSetting};
 ghost use Rattle.sql_eval.specs.Tables.{named};
 
 use descriptors::Catalog;
-use local_search::Partition;
+use local_search::{Partition, partitions};
 use mr_base::{Bytes, ListOf, Memory, RangeId, SqlState};
 use region_sql::List;
 use sql_eval::NamedTable;
@@ -98,5 +98,8 @@ pub(crate) fn partitions_of(
     requires table { named_table setting.now.layout.catalog name.now ≡ Some (named n.now) }
     ensures { IfOk result (λ ps. ps ≡ partitions_of setting.now.layout (named n.now)) }
 {
-    Err(Memory)
+    match setting.first_range(n.place) {
+        Some(first) => partitions(alloc, n.table, n.database, *first),
+        None => unreachable!(),
+    }
 }

@@ -1,11 +1,18 @@
 use Rattle.std.proofs.Common.{subst}
+use Rattle.row_locality.specs.Decoding.{IsRegionFor}
 use Rattle.sql_eval.specs.OwnWrites.{reads_through}
 use Rattle.sql_eval.specs.Reads.{served_reads}
 use Rattle.sql_eval.specs.Tables.{named}
+use Rattle.answer_laws.proofs.Lists.{each_weaker}
 use Rattle.planner.proofs.TurnLemmas.{has_read, scan_asks}
-use Rattle.planner.specs.Phases.{terms_of}
+use Rattle.planner.specs.Phases.{IsLookupFor, terms_of}
 use Rattle.planner.specs.Turns.{IsScanStep}
 use Rattle.planner.proofs.turns.scanning.Goals as goal
+
+pub scan_on-requires : goal.scan_on-requires
+scan_on-requires c =
+    let t = c.args.n.now.table.now in
+    each_weaker (IsLookupFor c.args.setting.now.layout.catalog t) (λ x. IsRegionFor t x.partition.region) (λ x h. h.region) c.args.w.lookups c.requires.scan.lookups
 
 pub with_rows-requires-clause-rows : goal.with_rows-requires-clause-rows
 with_rows-requires-clause-rows c =
