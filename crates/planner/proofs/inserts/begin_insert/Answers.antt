@@ -19,6 +19,7 @@ check_of_made-requires-clause-made c =
 pub returns : goal.returns
 returns c = (
   tt,
+  tt,
   insert_checked c.args.setting.now.layout c.args.setting.now.region (named c.args.n.now) c.args.table.now c.args.columns.now c.args.rows.now c.requires.checked c.as_slice.result.now
       c.in-Ok.changes.answer c.in_ok-check.check (search rules) (search rules) c.in_ok-check.ensures,
 )
