@@ -9,8 +9,8 @@ use Rattle.planner.specs.Turns.{IsSearchStep}
 use Rattle.planner.specs.declared.phases.Phase.TheVariants as phases
 use Rattle.planner.proofs.turns.searching.Goals as goal
 
-pub search_on-requires : goal.search_on-requires
-search_on-requires c = record { table = named_sound c.args.setting.now (table_name c.args.s.now) (named c.args.n.now) c.requires.sound c.requires.table }
+pub search_on-requires-clause-table : goal.search_on-requires-clause-table
+search_on-requires-clause-table c = named_sound c.args.setting.now (table_name c.args.s.now) (named c.args.n.now) c.requires.sound c.requires.table
 
 pub scanning-requires-clause-scan : goal.scanning-requires-clause-scan
 scanning-requires-clause-scan c =
