@@ -8,10 +8,12 @@ ghost use Rattle.sql_eval.specs.Evaluation.{Setting, evaluation};
 ghost use Rattle.sql_eval.specs.Laws.{HaveTexts, IsSoundSetting};
 ghost use Rattle.sql_eval.specs.NextSpan.{answers_in, need_of, program_of, writes_in};
 ghost use Rattle.sql_eval.specs.Reads.{served_reads};
+ghost use Rattle.planner.specs.FreshAsks.{fresh_asks};
 ghost use Rattle.planner.specs.Plans.{PlansAreExecuted, is_done};
 ghost use Rattle.planner.specs.Progress.{IsStateOf};
 ghost use Rattle.planner.specs.declared.plan.State.TheVariants as states;
 
+use crate::fresh_spans::fresh_asks;
 use crate::known_spans::KnownSpans;
 use crate::own_writes::OwnWrites;
 use crate::phases::Phase;
@@ -174,6 +176,11 @@ impl Plan {
           region = region.now;
           list = list;
         })) }
+        ensures setting { IfOk result (λ p. p.setting ≡ record {
+          layout = record { catalog = catalog.now; first_ranges = first_ranges.now };
+          region = region.now;
+          list = list;
+        }) }
         ensures unfed { IfOk result (λ p. ⟦<Plan as Script>⟧.fed p ≡ []) }
         ensures not_done { IfOk result (λ p. ⟦<Plan as Script>⟧.done p ≡ false) }
     {
@@ -200,6 +207,16 @@ impl Plan {
             → result.now ≡ (⟦<Plan as Script>⟧.program self.now).answers_after (⟦<Plan as Script>⟧.fed self.now) }
     {
         answers_in(&self.state)
+    }
+
+    /// What a read of bounded staleness looks at, where the list is one SELECT without a fault before any row
+    /// is looked at: the point of the primary key where each of its columns has a term with `=`, else all keys,
+    /// in each range of the table, or in the one that a term `crdb_region = 'x'` names, in the order of ranges.
+    /// Source: CockroachDB's documentation of bounded staleness reads, in this project's profile.
+    pub fn fresh_asks(&self) -> Result<Option<ListOf<Ask>>, Memory>
+        ensures { IfOk result (λ asks. asks ≡ fresh_asks self.now.setting) }
+    {
+        fresh_asks(self.alloc, &self.setting)
     }
 }
 
