@@ -1,6 +1,6 @@
 -- How statements begin: their first searches.
 use Rattle.std.proofs.Common.{◌≡◌, ℕ, ◌+◌, ◌≤◌, Bool, true, false, List, [], ◌∷◌, map, length, refl, sym, ap, ◌∙◌, subst}
-use Rattle.std.specs.Prelude.{All, Contains, IfSome, IsFalse, IsTrue, IsUtf8, if◌then◌else◌, filter, not, Option, Some, None, option_map}
+use Rattle.std.specs.Prelude.{All, Contains, IfSome, IsUtf8, if◌then◌else◌, filter, not, Option, Some, None, option_map}
 use Rattle.std.specs.List.{AllByRecursion, enumerate_from}
 use Rattle.std.specs.Option.{option_map_or}
 use Rattle.std.proofs.lemmas.Option.{same_Some}
@@ -18,26 +18,24 @@ use Rattle.descriptors.specs.declared.table.Table.{Table}
 use Rattle.row_locality.specs.Decoding.{IsRegionFor}
 use Rattle.row_locality.specs.Plain.{Layout, Partition, partition_regions, range_at, regions_of}
 use Rattle.row_locality.specs.Rows.{is_by_row}
-use Rattle.sql_eval.specs.Evaluation.{KeyedRow, Outcome, Setting, checked_outcome, ends_at, followed_answers, found_rows, has_pair, matched_rows, partitions_of, table_outcome, unless}
-use Rattle.sql_eval.specs.Execution.{Named, named_table, table_name}
+use Rattle.sql_eval.specs.Evaluation.{KeyedRow, Setting, checked_outcome, ends_at, followed_answers, found_rows, has_pair, matched_rows, partitions_of, table_outcome, unless}
+use Rattle.sql_eval.specs.Execution.{Named, named_table}
 use Rattle.sql_eval.specs.Faults.{check_fault}
 use Rattle.sql_eval.specs.Laws.{IsSoundSetting}
 use Rattle.sql_eval.specs.Lookups.{fixed_region, index_for, is_in_region, key_lookup, near_first, row_lookups, searched_partitions, whole_partition}
 use Rattle.sql_eval.specs.Reads.{Reads}
-use Rattle.sql_eval.specs.Search.{Evaluation, gives, faults, ◌>>=◌, followed_by, Lookup, search}
+use Rattle.sql_eval.specs.Search.{Evaluation, gives, ◌>>=◌, followed_by, Lookup, search}
 use Rattle.local_search.specs.LookupOrder.{IsTypedTerm}
 use Rattle.local_search.proofs.TypedTerms.{delete_is_typed, select_is_typed, update_is_typed}
-use Rattle.local_search.proofs.FixedColumns.{IsTypedIndex, index_is_typed}
+use Rattle.local_search.proofs.FixedColumns.{index_is_typed}
 use Rattle.answer_laws.proofs.ExecutedLists.{sound_named}
 use Rattle.answer_laws.proofs.KeepsValid.{is_named}
 use Rattle.answer_laws.proofs.Lists.{each, each_append, each_filter, each_map, each_weaker}
-use Rattle.planner.specs.Phases.{FindsRows, IsLookupFor, IsPartitionFor, IsSoundPhase, IsSoundScan, IsSoundSearch, found_outcome, followed_if, is_update, rest_of_scan, rest_of_search, rest_of_table, scanned_rows, terms_of}
+use Rattle.planner.specs.Phases.{FindsRows, IsLookupFor, IsPartitionFor, found_outcome, followed_if, is_update, scanned_rows, terms_of}
 use Rattle.planner.specs.Turns.{IsBegun, IsFirstPhase}
 use Rattle.planner.specs.declared.phases.Begun.TheVariants as beginnings
-use Rattle.planner.specs.declared.phases.IndexSearch.{IndexSearch}
 use Rattle.planner.specs.declared.phases.Phase.{Phase}
 use Rattle.planner.specs.declared.phases.Phase.TheVariants as phases
-use Rattle.planner.specs.declared.phases.RowScan.{RowScan}
 
 -- ---- the partitions of a table
 
@@ -109,11 +107,10 @@ module _ (l : Layout) (gateway : List ℕ) (n : Named) (terms : List Term)
       → IsFirstPhase l gateway n terms (phases.Scanning (record { is_first = true; lookups = lookups; passed = 0; rows = [] }))
   unfolding ps by_index found_rows matched_rows
   scan_first lookups e f =
-      let same : lookups ≡ row_lookups gateway None ps = f ∙ ap (λ o. row_lookups gateway o ps) e in
-      (
+      let same : lookups ≡ row_lookups gateway None ps = f ∙ ap (λ o. row_lookups gateway o ps) e in (
         record { lookups = subst (AllByRecursion (IsLookupFor l.catalog n.table)) (sym same) (rows_in (IsPartitionFor l.catalog n.table) gateway None ps ps_there); rows = tt },
         (λ reads. ap (by_index reads) e
-        ∙ ap (λ (ls : List Lookup). followed_by 1 (search reads (λ a. false) ls) >>= λ answers. gives (scanned_rows n.table terms [] answers)) (sym same)),
+            ∙ ap (λ (ls : List Lookup). followed_by 1 (search reads (λ a. false) ls) >>= λ answers. gives (scanned_rows n.table terms [] answers)) (sym same)),
       )
 
   search_first : (lookups : List Lookup) (index : ℕ) (x : ℕ × List Datum) → IsSoundTable n.table → All (IsTypedTerm n.table) terms → index_for n.table terms ≡ Some x → index ≡ x.0
@@ -122,8 +119,7 @@ module _ (l : Layout) (gateway : List ℕ) (n : Named) (terms : List Term)
   unfolding ps by_index found_rows matched_rows
   search_first lookups index x sound typed e g f =
       let same : lookups ≡ row_lookups gateway (Some x) ps = f ∙ ap (λ o. row_lookups gateway o ps) e in
-      let number : x.0 ≤ length n.table.unique = (index_is_typed n.table terms x sound typed e).number in
-      (
+      let number : x.0 ≤ length n.table.unique = (index_is_typed n.table terms x sound typed e).number in (
         record {
           index = subst (λ (k : ℕ). k ≤ length n.table.unique) (sym g) number;
           of_index = subst (AllByRecursion (λ (y : Lookup). y.index ≡ index)) (sym same)
@@ -131,7 +127,7 @@ module _ (l : Layout) (gateway : List ℕ) (n : Named) (terms : List Term)
           lookups = subst (AllByRecursion (IsLookupFor l.catalog n.table)) (sym same) (rows_in (IsPartitionFor l.catalog n.table) gateway (Some x) ps ps_there);
         },
         (λ reads. ap (by_index reads) e
-        ∙ (λ i. followed_by 1 (search reads has_pair (sym same i)) >>= λ first. followed_answers reads n.table (Some (sym g i, [])) first >>= λ answers. gives (matched_rows n.table terms answers))),
+            ∙ (λ i. followed_by 1 (search reads has_pair (sym same i)) >>= λ first. followed_answers reads n.table (Some (sym g i, [])) first >>= λ answers. gives (matched_rows n.table terms answers))),
       )
 
   none_mapped : (o : Option (ℕ × List Datum)) → None ≡ option_map (λ x. x.0) o → o ≡ None
@@ -181,18 +177,16 @@ module _ (l : Layout) (gateway : List ℕ) (n : Named) where
   pub begun : (s : RowStatement) (phase : Phase) → FindsRows s → check_fault n.table n.database s ≡ None → IsFirstPhase l gateway n (terms_of s) phase
       → IsBegun l gateway n s (beginnings.Goes phase)
   begun s phases.Ready f e h = absurd h
-  begun s (phases.Searching w) f e h =
-      (
-        tt,
-        (record { finds = f; checked = e }, h.0),
-        (λ reads. begun_by s reads f e ∙ ap (λ x. followed_if (is_update s) x >>= λ old. found_outcome l reads n s old) (h.1 reads)),
-      )
-  begun s (phases.Scanning w) f e h =
-      (
-        tt,
-        (record { finds = f; checked = e }, h.0),
-        (λ reads. begun_by s reads f e ∙ ap (λ x. followed_if (is_update s) x >>= λ old. found_outcome l reads n s old) (h.1 reads)),
-      )
+  begun s (phases.Searching w) f e h = (
+    tt,
+    (record { finds = f; checked = e }, h.0),
+    (λ reads. begun_by s reads f e ∙ ap (λ x. followed_if (is_update s) x >>= λ old. found_outcome l reads n s old) (h.1 reads)),
+  )
+  begun s (phases.Scanning w) f e h = (
+    tt,
+    (record { finds = f; checked = e }, h.0),
+    (λ reads. begun_by s reads f e ∙ ap (λ x. followed_if (is_update s) x >>= λ old. found_outcome l reads n s old) (h.1 reads)),
+  )
   begun s (phases.Checking w) f e h = absurd h
 
   pub has_fault : (s : RowStatement) (code : SqlState) → check_fault n.table n.database s ≡ Some code → IsBegun l gateway n s (beginnings.Faulty code)

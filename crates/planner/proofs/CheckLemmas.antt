@@ -1,19 +1,17 @@
 -- Look-ups of new rows, one after the other.
-use Rattle.std.proofs.Common.{◌≡◌, ℕ, ◌+◌, ◌<◌, ◌≤◌, Bool, true, false, cond, List, [], ◌∷◌, drop, get_or, length, map, refl, sym, ap, ◌∙◌}
+use Rattle.std.proofs.Common.{◌≡◌, ℕ, ◌+◌, ◌<◌, ◌≤◌, Bool, true, false, List, [], ◌∷◌, drop, get_or, length, refl, sym, ap, ◌∙◌}
 use Rattle.std.specs.Prelude.{◌||◌, if◌then◌else◌, Option, Some, None}
 use Rattle.std.specs.List.{list_any}
 use Rattle.std.proofs.lemmas.List.{at_drop_more, drop-drop, drop_all}
 use Rattle.mr_base.specs.declared.spans.Ask.{Ask}
-use Rattle.mr_base.specs.declared.spans.Pair.{Pair}
 use Rattle.mr_base.specs.declared.states.SqlState.TheVariants.{S23505}
-use Rattle.row_locality.specs.Pairs.{KeyValue, key_value}
+use Rattle.row_locality.specs.Pairs.{KeyValue}
 use Rattle.sql_eval.specs.Evaluation.{KeyedRow, Outcome, meets_other}
-use Rattle.sql_eval.specs.Reads.{Reads, IsPartOf}
+use Rattle.sql_eval.specs.Reads.{Reads}
 use Rattle.sql_eval.specs.Search.{Evaluation, gives, faults, needs, ◌>>=◌, Answer, Lookup, after_answer, ask_of, behind, search}
 use Rattle.planner.specs.Checks.{meets}
 use Rattle.planner.specs.Phases.{rest_of_check}
 use Rattle.planner.specs.Turns.{AreSame, IsNeeded}
-use Rattle.planner.specs.declared.unique_check.Passing.{Passing}
 use Rattle.planner.specs.declared.phases.UniqueCheck.{UniqueCheck}
 
 abbrev hit : List KeyedRow → List Answer → Evaluation Bool

@@ -1,5 +1,5 @@
 -- Plans, as they need more and are fed.
-use Rattle.std.proofs.Common.{◌≡◌, ℕ, ◌+◌, ◌<◌, Bool, true, false, List, [], ◌∷◌, ◌++◌, refl, sym, ap, ◌∙◌, subst}
+use Rattle.std.proofs.Common.{◌≡◌, ℕ, ◌+◌, ◌<◌, false, List, [], ◌∷◌, ◌++◌, refl, sym, ap, ◌∙◌, subst}
 use Rattle.std.specs.Prelude.{drop, IfSome, OnOk, OnErr, Option, Some, None, Result, Ok, Err}
 use Rattle.mr_base.specs.Scripts.{AsksFor, IsNearer, fed_with}
 use Rattle.mr_base.specs.declared.ids.RangeId.{RangeId}
@@ -19,19 +19,18 @@ use Rattle.sql_eval.specs.Agreement.{AreChanges}
 use Rattle.sql_eval.specs.Evaluation.{ListOutcome, Setting, evaluation, list_outcome, statement_outcome}
 use Rattle.sql_eval.specs.Execution.{Named, exec, named_table, table_name}
 use Rattle.sql_eval.specs.Laws.{HaveTexts, IsExecuted, IsSoundSetting}
-use Rattle.sql_eval.specs.NextSpan.{asks_after, asks_in, need_of, next_in, next_span, phases_after, answers_in, writes_in}
+use Rattle.sql_eval.specs.NextSpan.{asks_after, need_of, next_in, next_span, phases_after, answers_in, writes_in}
 use Rattle.sql_eval.specs.OwnWrites.{OwnWrites}
-use Rattle.sql_eval.specs.Reads.{Reads, IsPartOf, served_reads}
+use Rattle.sql_eval.specs.Reads.{Reads, served_reads}
 use Rattle.sql_eval.specs.Search.{Evaluation, gives, faults, needs, ◌>>=◌, of_result}
 use Rattle.answer_laws.proofs.LawsOfNeeds.{fed_is_known, known_is_not_needed, needs_are_counted, answers_bring_nearer}
 use Rattle.answer_laws.proofs.WholeLists.{evaluation_executed}
-use Rattle.planner.specs.Phases.{IsPhaseOf, IsSoundPhase}
-use Rattle.planner.specs.Plans.{IsExecutedOn, PlansAreExecuted, is_done}
-use Rattle.planner.specs.Progress.{IsPhaseOfFirst, IsSoundProgress, IsStateOf, answered, rest_of, rest_of_list}
+use Rattle.planner.specs.Phases.{IsSoundPhase}
+use Rattle.planner.specs.Plans.{PlansAreExecuted, is_done}
+use Rattle.planner.specs.Progress.{IsPhaseOfFirst, IsStateOf, answered, rest_of_list}
 use Rattle.planner.specs.declared.phases.Phase.TheVariants.{Ready}
 use Rattle.planner.specs.declared.plan.State.{State}
 use Rattle.planner.specs.declared.plan.State.TheVariants.{Working, Faulty, Done as Ended, Lost}
-use Rattle.planner.specs.declared.progress.Progress.{Progress}
 
 -- ---- what is needed
 

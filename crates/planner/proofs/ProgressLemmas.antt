@@ -7,7 +7,6 @@ use Rattle.mr_base.specs.declared.results.StatementResult.{StatementResult}
 use Rattle.mr_base.specs.declared.spans.Ask.{Ask}
 use Rattle.mr_base.specs.declared.states.SqlState.{SqlState}
 use Rattle.region_sql.specs.declared.row_statements.RowStatement.{RowStatement}
-use Rattle.descriptors.specs.Contents.{Contents}
 use Rattle.row_locality.specs.Plain.{Layout}
 use Rattle.sql_eval.specs.Evaluation.{ListOutcome, Outcome, Setting, list_outcome}
 use Rattle.sql_eval.specs.OwnWrites.{OwnWrites, with_writes, reads_through}
@@ -15,8 +14,8 @@ use Rattle.sql_eval.specs.Reads.{Reads, IsPartOf}
 use Rattle.sql_eval.specs.Search.{Evaluation, gives, faults, needs, ◌>>=◌, followed_by, of_result}
 use Rattle.answer_laws.proofs.Statements.{through_part}
 use Rattle.planner.proofs.PlanLemmas.{all_is_left, ready}
-use Rattle.planner.specs.Phases.{rest_of_statement, IsPhaseOf}
-use Rattle.planner.specs.Progress.{IsListStep, IsPhaseOfFirst, IsSoundProgress, IsStatementStep, IsStepIn, answered, rest_in, rest_of, rest_of_list}
+use Rattle.planner.specs.Phases.{rest_of_statement}
+use Rattle.planner.specs.Progress.{IsListStep, IsPhaseOfFirst, IsStatementStep, IsStepIn, answered, rest_in, rest_of, rest_of_list}
 use Rattle.planner.specs.Turns.{AreSame, IsNeeded, IsTurn}
 use Rattle.planner.specs.declared.phases.Phase.{Phase}
 use Rattle.planner.specs.declared.phases.Phase.TheVariants.{Ready}

@@ -1,24 +1,22 @@
 -- Look-ups in an index, one after the other.
-use Rattle.std.proofs.Common.{◌≡◌, ℕ, zero, suc, ◌+◌, ◌<◌, ◌≤◌, Bool, true, false, cond, List, [], ◌∷◌, ◌++◌, drop, filter, get_or, length, refl, sym, ap, ◌∙◌, subst, arith}
-use Rattle.std.specs.Prelude.{◌==◌, if◌then◌else◌, not, map, flat_map, slice_get, Option, Some, None, option_and_then, option_map}
+use Rattle.std.proofs.Common.{◌≡◌, ℕ, zero, suc, ◌+◌, ◌<◌, ◌≤◌, Bool, true, false, List, [], ◌∷◌, drop, get_or, length, refl, sym, ap, ◌∙◌, subst, arith}
+use Rattle.std.specs.Prelude.{◌==◌, if◌then◌else◌, not, map, slice_get, Option, Some, None, option_and_then, option_map}
 use Rattle.std.specs.List.{AllByRecursion}
 use Rattle.std.specs.Option.{option_to_list}
 use Rattle.std.proofs.lemmas.Bool.Decides.{nat_tests}
 use Rattle.std.proofs.lemmas.List.{append-nil, at_drop_more, drop-drop, drop_all}
-use Rattle.mr_base.specs.declared.rows.Datum.{Datum}
 use Rattle.mr_base.specs.declared.spans.Ask.{Ask}
 use Rattle.mr_base.specs.declared.spans.Pair.{Pair}
 use Rattle.region_sql.specs.declared.row_statements.Term.{Term}
 use Rattle.descriptors.specs.Contents.{Contents}
 use Rattle.descriptors.specs.declared.table.Table.{Table}
-use Rattle.row_locality.specs.Pairs.{KeyValue, key_value, put_all}
+use Rattle.row_locality.specs.Pairs.{KeyValue, key_value}
 use Rattle.row_locality.specs.Reading.{primary_of}
-use Rattle.sql_eval.specs.Evaluation.{KeyedRow, at_primary, followed_answers, has_pair, led_to, matched_rows, rows_in}
+use Rattle.sql_eval.specs.Evaluation.{KeyedRow, at_primary, followed_answers, has_pair, led_to, matched_rows}
 use Rattle.sql_eval.specs.Lookups.{primary_lookup}
-use Rattle.sql_eval.specs.Reads.{Reads, IsPartOf}
-use Rattle.sql_eval.specs.RowWords.{matches}
+use Rattle.sql_eval.specs.Reads.{Reads}
 use Rattle.sql_eval.specs.Search.{Evaluation, gives, faults, needs, ◌>>=◌, Answer, Lookup, after_answer, ask_of, behind, followed_by, search}
-use Rattle.planner.specs.Phases.{IsLookupFor, IsSoundScan, IsSoundSearch, rest_of_scan, rest_of_search, scanned_rows}
+use Rattle.planner.specs.Phases.{IsLookupFor, IsSoundSearch, scanned_rows}
 use Rattle.planner.specs.Searches.{IsSought, read_rows, row_lookup, sought_rows}
 use Rattle.planner.specs.Turns.{AreSame, IsNeeded, IsSearchStep}
 use Rattle.planner.specs.declared.index_search.SearchStep.TheVariants as searches

@@ -6,7 +6,7 @@ use Rattle.std.proofs.lemmas.List.{length-map}
 use Rattle.std.proofs.lemmas.Option.{slice_get_within}
 use Rattle.mr_base.specs.declared.ids.RangeId.{RangeId}
 use Rattle.descriptors.specs.declared.database.Database.{Database}
-use Rattle.row_locality.specs.Plain.{Layout, Partition, first_range, partition_regions, partitions, regions_of}
+use Rattle.row_locality.specs.Plain.{Partition, first_range, partition_regions, regions_of}
 use Rattle.row_locality.specs.Rows.{is_by_row}
 use Rattle.sql_eval.specs.Evaluation.{Setting, partitions_of}
 use Rattle.sql_eval.specs.Execution.{Named, named_table}

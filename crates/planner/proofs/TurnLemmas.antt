@@ -1,6 +1,6 @@
 -- Statements at work, from one phase to the next.
 use Rattle.std.proofs.Common.{◌≡◌, ℕ, ◌+◌, Bool, true, false, List, [], refl, sym, ap, ◌∙◌, subst}
-use Rattle.std.specs.Prelude.{IfOk, IfSome, Option, Some, None, Result, Ok, Err}
+use Rattle.std.specs.Prelude.{IfOk, IfSome, Some, None, Result, Ok, Err}
 use Rattle.std.specs.Option.{option_map_or}
 use Rattle.mr_base.specs.declared.memory.Memory.{Memory}
 use Rattle.mr_base.specs.declared.spans.Ask.{Ask}
@@ -11,9 +11,9 @@ use Rattle.row_locality.specs.Plain.{Layout}
 use Rattle.sql_eval.specs.Evaluation.{KeyedRow, Outcome}
 use Rattle.sql_eval.specs.Execution.{Named, named_table, table_name}
 use Rattle.sql_eval.specs.Reads.{Reads, IsPartOf}
-use Rattle.sql_eval.specs.Search.{Evaluation, gives, faults, needs, ◌>>=◌}
-use Rattle.planner.specs.Phases.{followed_if, found_outcome, is_update, rest_of_scan, rest_of_search, rest_of_check, rest_of_statement, rest_of_table, scanned_rows, terms_of, IsPhaseOf, IsSoundPhase, MayFind}
-use Rattle.planner.specs.Turns.{AreSame, IsBegun, IsCheckStep, IsFound, IsNeeded, IsScanStep, IsSearchStep, IsTableTurn, IsTurn}
+use Rattle.sql_eval.specs.Search.{Evaluation, gives, faults, ◌>>=◌}
+use Rattle.planner.specs.Phases.{followed_if, found_outcome, is_update, rest_of_scan, rest_of_search, rest_of_statement, rest_of_table, scanned_rows, terms_of, IsPhaseOf, IsSoundPhase, MayFind}
+use Rattle.planner.specs.Turns.{AreSame, IsBegun, IsFound, IsNeeded, IsScanStep, IsSearchStep, IsTableTurn, IsTurn}
 use Rattle.planner.specs.declared.index_search.SearchStep.TheVariants as searches
 use Rattle.planner.specs.declared.phases.Begun.TheVariants as beginnings
 use Rattle.planner.specs.declared.phases.Found.TheVariants as found

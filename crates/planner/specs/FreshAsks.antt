@@ -25,11 +25,15 @@ fresh_span t terms = option_map_or (λ values. point_of (index_key 0 values)) (f
 -- That span in each range of the table, or in the one that a term `crdb_region = 'x'` names, in the order of
 -- ranges.
 abbrev pub fresh_asks_in : Table → List Partition → List Term → List Ask
-fresh_asks_in t ps terms = map (λ p. record { range = p.range; span = fresh_span t terms }) (searched_partitions terms ps)
+fresh_asks_in t ps terms =
+    map (λ p. record { range = p.range; span = fresh_span t terms }) (searched_partitions terms ps)
 
 -- A look-up as it is looked at: the point, where it is in the primary index, else all keys of its range.
 abbrev pub looked_at : Option ℕ → Lookup → Ask
-looked_at by l = record { range = l.partition.range; span = option_map_or (λ number. if number == 0 then l.span else all_keys) by all_keys }
+looked_at by l = record {
+  range = l.partition.range;
+  span = option_map_or (λ number. if number == 0 then l.span else all_keys) by all_keys;
+}
 
 abbrev pub unless_faulty : Option SqlState → List Ask → Option (List Ask)
 unless_faulty None asks = Some asks
@@ -37,7 +41,8 @@ unless_faulty (Some e) asks = None
 
 -- Of a SELECT of this table, where it has no fault before any row is looked at.
 abbrev pub fresh_asks_on : Setting → RowStatement → List Term → Named → Option (List Ask)
-fresh_asks_on s one terms n = unless_faulty (check_fault n.table n.database one) (fresh_asks_in n.table (partitions_of s.layout n) terms)
+fresh_asks_on s one terms n =
+    unless_faulty (check_fault n.table n.database one) (fresh_asks_in n.table (partitions_of s.layout n) terms)
 
 abbrev pub fresh_asks_of : Setting → RowStatement → Option (List Ask)
 fresh_asks_of s (Insert table names rows) = None

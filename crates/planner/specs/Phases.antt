@@ -1,9 +1,8 @@
 -- What is left of a statement at work, as evaluations over what is known. (This project's profile.)
-use Rattle.std.specs.Prelude.{◌≡◌, ℕ, ◌≤◌, Bool, true, false, ◌||◌, if◌then◌else◌, ⊤, List, [], ◌∷◌, ◌++◌, drop, filter, flat_map, length, Option, Some, None, IfSome, Contains}
+use Rattle.std.specs.Prelude.{◌≡◌, ℕ, ◌≤◌, Bool, true, false, ◌||◌, if◌then◌else◌, ⊤, List, [], ◌++◌, drop, filter, flat_map, length, Some, None, IfSome, Contains}
 use Rattle.std.specs.List.{AllByRecursion, list_any}
 use Rattle.std.specs.Option.{option_map_or}
 use Rattle.mr_base.specs.declared.results.Verb.TheVariants as verbs
-use Rattle.mr_base.specs.declared.rows.Datum.{Datum}
 use Rattle.mr_base.specs.declared.states.SqlState.TheVariants.{S23505, S42P01}
 use Rattle.region_sql.specs.declared.row_statements.RowStatement.{RowStatement}
 use Rattle.region_sql.specs.declared.row_statements.RowStatement.TheVariants.{Insert, Select, Update, Delete}
@@ -55,13 +54,17 @@ followed_if false e = e
 
 -- What a statement comes to with the rows that it found. (An INSERT finds none.)
 abbrev pub found_outcome : Layout → Reads → Named → RowStatement → List KeyedRow → Evaluation Outcome
-found_outcome l reads n (Insert table names literals) old = gives (record { answer = count_answer verbs.Insert 0; writes = [] })
+found_outcome l reads n (Insert table names literals) old =
+    gives (record { answer = count_answer verbs.Insert 0; writes = [] })
 found_outcome l reads n (Select table wanted terms) old =
     gives (record { answer = rows_answer (shown_rows n.table wanted (rows_of old)); writes = [] })
 found_outcome l reads n (Update table targets terms) old =
     of_result (changed_rows n.table targets (rows_of old)) >>= λ new.
     if_free reads n.table old (changed_row_lookups n.table (partitions_of l n) (rows_of old) new) new >>= λ _.
-    gives (record { answer = count_answer verbs.Update (length new); writes = removals l n (rows_of old) ++ additions l n new })
+    gives (record {
+      answer = count_answer verbs.Update (length new);
+      writes = removals l n (rows_of old) ++ additions l n new;
+    })
 found_outcome l reads n (Delete table terms) old =
     gives (record { answer = count_answer verbs.Delete (length old); writes = removals l n (rows_of old) })
 

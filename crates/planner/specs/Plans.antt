@@ -1,7 +1,5 @@
 -- Plans as scripts. (This project's profile.)
-use Rattle.std.specs.Prelude.{◌≡◌, Bool, true, false, List, [], ◌∷◌, Result, Ok, Err, Contains}
-use Rattle.mr_base.specs.Scripts.{Program}
-use Rattle.mr_base.specs.declared.results.StatementResult.{StatementResult}
+use Rattle.std.specs.Prelude.{◌≡◌, Bool, true, false, List, Ok, Err}
 use Rattle.mr_base.specs.declared.script.Fed.{Fed}
 use Rattle.mr_base.specs.declared.script.Need.TheVariants.{Done, Fault}
 use Rattle.mr_base.specs.declared.states.SqlState.{SqlState}
@@ -32,7 +30,8 @@ pub record IsExecutedOn (s : Setting) (fed : List Fed) (d : PlainDatabase) : Typ
   pub done : (program_of s).need_after fed ≡ Done → (after : PlainDatabase)
       × (exec s.layout.catalog s.region s.list d ≡ Ok ((program_of s).answers_after fed, after))
       × AreChanges s.layout d after ((program_of s).writes_after fed)
-  pub fault : (code : SqlState) → (program_of s).need_after fed ≡ Fault code → exec s.layout.catalog s.region s.list d ≡ Err code
+  pub fault : (code : SqlState) → (program_of s).need_after fed ≡ Fault code
+      → exec s.layout.catalog s.region s.list d ≡ Err code
 
 -- It is so on every valid database that agrees with what was fed.
 abbrev pub PlansAreExecuted : Type 0

@@ -1,14 +1,11 @@
 -- What is left of a list at work, as an evaluation over what is known. (This project's profile.)
-use Rattle.std.specs.Prelude.{◌≡◌, ℕ, ◌+◌, ◌*◌, ⊤, List, [], ◌∷◌, ◌++◌, drop, length, Result, Ok, Err}
+use Rattle.std.specs.Prelude.{◌≡◌, ℕ, ◌+◌, ◌*◌, ⊤, List, [], ◌∷◌, ◌++◌, drop, length, Ok}
 use Rattle.mr_base.specs.declared.results.StatementResult.{StatementResult}
 use Rattle.mr_base.specs.declared.script.Fed.{Fed}
-use Rattle.mr_base.specs.declared.spans.Ask.{Ask}
-use Rattle.mr_base.specs.declared.states.SqlState.{SqlState}
 use Rattle.region_sql.specs.declared.row_statements.RowStatement.{RowStatement}
 use Rattle.descriptors.specs.Contents.{Contents}
 use Rattle.row_locality.specs.Plain.{Layout}
 use Rattle.sql_eval.specs.Evaluation.{ListOutcome, Setting, evaluation, list_outcome}
-use Rattle.sql_eval.specs.Laws.{IsSoundSetting}
 use Rattle.sql_eval.specs.OwnWrites.{OwnWrites, with_writes, reads_through, writes_of}
 use Rattle.sql_eval.specs.Reads.{Reads, served_reads}
 use Rattle.sql_eval.specs.Search.{Evaluation, gives, faults, ◌>>=◌, followed_by, of_result}
@@ -49,7 +46,8 @@ IsPhaseOfFirst c phase [] = ⊤
 IsPhaseOfFirst c phase (s ∷ ss) = IsPhaseOf c s phase
 
 abbrev pub IsSoundProgress : Setting → Progress → Type 0
-IsSoundProgress s p = (list : List RowStatement) → s.list ≡ Ok list → IsPhaseOfFirst s.layout.catalog p.phase (drop p.done list)
+IsSoundProgress s p =
+    (list : List RowStatement) → s.list ≡ Ok list → IsPhaseOfFirst s.layout.catalog p.phase (drop p.done list)
 
 -- The next statement of a list needs a span and goes on behind it, or ends with a fault or done.
 abbrev pub IsStatementStep : Setting → List RowStatement → Reads → Progress → ListStep → Type 0
@@ -82,8 +80,10 @@ IsListStep s known p (steps.Done q) = rest_of s p known ≡ gives (record { answ
 -- What a plan keeps is what the list comes to over what was fed: of a list at work what is left of it, over
 -- all that holds what was fed.
 abbrev pub IsStateOf : Setting → List Fed → State → Type 0
-IsStateOf s fed (states.Working p) = IsSoundProgress s p × AreSame (served_reads fed) (λ reads. evaluation s reads) (rest_of s p)
+IsStateOf s fed (states.Working p) =
+    IsSoundProgress s p × AreSame (served_reads fed) (λ reads. evaluation s reads) (rest_of s p)
 IsStateOf s fed (states.Faulty code) = evaluation s (served_reads fed) ≡ faults code
 IsStateOf s fed (states.Done x) =
-    (evaluation s (served_reads fed) ≡ gives (record { answers = x.answers; own = x.own })) × (x.writes ≡ writes_of x.own)
+    (evaluation s (served_reads fed) ≡ gives (record { answers = x.answers; own = x.own }))
+    × (x.writes ≡ writes_of x.own)
 IsStateOf s fed states.Lost = ⊤

@@ -11,6 +11,8 @@ with_written written pairs = put_all (filter_map (λ x. option_map (λ value. (x
 -- Where a value of a key goes among pairs: to the place of the pair of that key, or between two pairs.
 abbrev pub IsPlaceFor : List ℕ → List Pair → Result ℕ ℕ → Type 0
 IsPlaceFor key pairs (Ok i) = (i < length pairs)
-    × ((v : List ℕ) → put bytes_cmp key v (map key_value pairs) ≡ map key_value (take i pairs) ++ (key, v) ∷ map key_value (drop (i + 1) pairs))
+    × ((v : List ℕ) → put bytes_cmp key v (map key_value pairs)
+    ≡ map key_value (take i pairs) ++ (key, v) ∷ map key_value (drop (i + 1) pairs))
 IsPlaceFor key pairs (Err i) = (i ≤ length pairs)
-    × ((v : List ℕ) → put bytes_cmp key v (map key_value pairs) ≡ map key_value (take i pairs) ++ (key, v) ∷ map key_value (drop i pairs))
+    × ((v : List ℕ) → put bytes_cmp key v (map key_value pairs)
+    ≡ map key_value (take i pairs) ++ (key, v) ∷ map key_value (drop i pairs))

@@ -139,10 +139,11 @@ pub(crate) fn found_update(
     requires sound { IsSoundSetting setting.now }
     requires table { named_table setting.now.layout.catalog table.now ≡ Some (named n.now) }
     requires texts { TextsAreUtf8 (RowStatement.Update table.now targets.now terms.now) }
-    requires checked { check_fault n.now.table.now n.now.database.now (RowStatement.Update table.now targets.now terms.now) ≡ None }
+    requires checked { check_fault n.now.table.now n.now.database.now
+        (RowStatement.Update table.now targets.now terms.now) ≡ None }
     requires rows { AreKeyedRowsOf setting.now.layout.catalog n.now.table.now rows }
-    ensures { IfOk result (IsFound setting.now.layout (named n.now) (RowStatement.Update table.now targets.now terms.now)
-        (scanned_rows n.now.table.now terms.now rows [])) }
+    ensures { IfOk result (IsFound setting.now.layout (named n.now)
+        (RowStatement.Update table.now targets.now terms.now) (scanned_rows n.now.table.now terms.now rows [])) }
 {
     let found = rows.into_matching(n.table, terms);
     let old = found.rows(alloc)?;
@@ -169,13 +170,15 @@ fn check_of_changed(
     requires old { All (IsRowOf setting.now.layout.catalog n.now.table.now) changes.old }
     requires new { All (IsRowOf setting.now.layout.catalog n.now.table.now) changes.new }
     ensures { IfOk result (λ check. check ≡ record {
-      lookups = changed_row_lookups n.now.table.now (partitions_of setting.now.layout (named n.now)) changes.old changes.new;
+      lookups = changed_row_lookups n.now.table.now (partitions_of setting.now.layout (named n.now))
+          changes.old changes.new;
       passed = 0;
       replaced = replaced;
       has_twins = has_twins n.now.table.now changes.new;
       outcome = record {
         answer = changes.answer;
-        writes = removals setting.now.layout (named n.now) changes.old ++ additions setting.now.layout (named n.now) changes.new;
+        writes = removals setting.now.layout (named n.now) changes.old
+            ++ additions setting.now.layout (named n.now) changes.new;
       };
     }) }
 {

@@ -34,7 +34,8 @@ pub(crate) fn begin_insert(
     requires sound { IsSoundSetting setting.now }
     requires table { named_table setting.now.layout.catalog table.now ≡ Some (named n.now) }
     requires texts { TextsAreUtf8 (RowStatement.Insert table.now columns.now rows.now) }
-    requires checked { check_fault n.now.table.now n.now.database.now (RowStatement.Insert table.now columns.now rows.now) ≡ None }
+    requires checked { check_fault n.now.table.now n.now.database.now
+        (RowStatement.Insert table.now columns.now rows.now) ≡ None }
     ensures { IfOk result (IsBegun setting.now.layout setting.now.region (named n.now)
         (RowStatement.Insert table.now columns.now rows.now)) }
 {

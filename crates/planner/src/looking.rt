@@ -22,7 +22,8 @@ pub fn read_through(
     known: &KnownSpans,
     ask: &Ask,
 ) -> Result<Option<ListOf<Pair>>, Memory>
-    ensures { IfOk result (λ pairs. option_map (map key_value) pairs ≡ reads_through own.now (served_reads known.now) ask.now) }
+    ensures { IfOk result (λ pairs. option_map (map key_value) pairs
+        ≡ reads_through own.now (served_reads known.now) ask.now) }
 {
     match known.served(alloc, ask)? {
         None => Ok(None),
@@ -87,7 +88,8 @@ fn put_value(
     key: &Bytes,
     value: Option<&Bytes>,
 ) -> Result<(), Memory>
-    ensures { OnOk result (map key_value pairs.new.items ≡ with_written ((key.now, option_copied value.entry) ∷ []) (map key_value pairs.old.items)) }
+    ensures { OnOk result (map key_value pairs.new.items
+        ≡ with_written ((key.now, option_copied value.entry) ∷ []) (map key_value pairs.old.items)) }
 {
     let Some(value) = value else {
         return Ok(());
@@ -101,7 +103,8 @@ fn put_value(
 
 /// Puts a pair in its place: where a pair of its key stands, or else before the first of a greater key.
 fn put_pair(pairs: &mut Vec<Pair>, pair: Pair) -> Result<(), Memory>
-    ensures { OnOk result (map key_value pairs.new.items ≡ put bytes_cmp pair.key pair.value (map key_value pairs.old.items)) }
+    ensures { OnOk result (map key_value pairs.new.items
+        ≡ put bytes_cmp pair.key pair.value (map key_value pairs.old.items)) }
 {
     match place_of(pairs.as_slice(), &pair.key) {
         Ok(place) => {

@@ -148,7 +148,8 @@ impl OwnWrites {
 
     /// The value of a key before its first write, where this is what it holds before the next one.
     fn first_value(&self, place: &Place, before: Option<Bytes>) -> Result<Option<Bytes>, Memory>
-        ensures { IfOk result (λ first. first ≡ option_map_or (λ x. x.first) (find place_cmp place.now self.now) before) }
+        ensures { IfOk result (λ first.
+            first ≡ option_map_or (λ x. x.first) (find place_cmp place.now self.now) before) }
     {
         match self.places.get(place) {
             Some(change) => change.first.clone_in(self.alloc),

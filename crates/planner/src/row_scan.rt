@@ -18,7 +18,7 @@ use crate::keyed_rows::KeyedRows;
 use crate::known_spans::KnownSpans;
 use crate::looking::read_through;
 use crate::own_writes::OwnWrites;
-use crate::phases::RowScan;
+use crate::phases::{RowScan, rest_of};
 use descriptors::Table;
 use local_search::Lookup;
 use mr_base::{Ask, CloneIn, EvalFault, Memory, Pair, Row};
@@ -69,16 +69,6 @@ pub(crate) fn scan_on(
             },
         )),
     }
-}
-
-/// The look-ups behind so many.
-fn rest_of(lookups: &[Lookup], passed: usize) -> &[Lookup]
-    ensures { result.now ≡ drop passed lookups.now }
-{
-    if passed < lookups.len() {
-        return &lookups[passed..];
-    }
-    &[]
 }
 
 /// Reads the rows of look-ups, put to others, up to the first that isn't known; and how many come before it.

@@ -176,7 +176,8 @@ fn with_rows(
     requires finds { MayFind (named n.now) s.now }
     requires rows { AreKeyedRowsOf setting.now.layout.catalog n.now.table.now rows }
     ensures { IfOk result (λ turn. (w : RowScan)
-        → (AreSame (reads_through own.now (served_reads known.now)) (λ reads. rest_of_scan reads n.now.table.now (terms_of s.now) w)
+        → (AreSame (reads_through own.now (served_reads known.now))
+        (λ reads. rest_of_scan reads n.now.table.now (terms_of s.now) w)
         (λ reads. gives (scanned_rows n.now.table.now (terms_of s.now) rows [])))
         → IsTableTurn setting.now.layout setting.now.region (named n.now)
         (reads_through own.now (served_reads known.now)) s.now (phases.Scanning w) turn) }

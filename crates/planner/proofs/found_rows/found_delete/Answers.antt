@@ -1,7 +1,7 @@
 use Rattle.std.proofs.Common.{◌≡◌, List, [], filter, length, rules, ap, ◌∙◌}
 use Rattle.mr_base.specs.declared.results.Verb.TheVariants as verbs
 use Rattle.mr_base.specs.declared.rows.Datum.{Datum}
-use Rattle.sql_eval.specs.Evaluation.{removals, rows_of}
+use Rattle.sql_eval.specs.Evaluation.{removals}
 use Rattle.sql_eval.specs.Execution.{count_answer}
 use Rattle.sql_eval.specs.RowWords.{matches}
 use Rattle.sql_eval.specs.Tables.{named}

@@ -1,13 +1,12 @@
-use Rattle.std.proofs.Common.{List, ◌≡◌, ◌++◌, ◌∷◌, [], sym, ap, ◌∙◌, subst, append-nil}
-use Rattle.std.specs.Prelude.{Some, None, slice_get}
+use Rattle.std.proofs.Common.{List, ◌++◌, ◌∷◌, [], sym, ap, ◌∙◌}
+use Rattle.std.specs.Prelude.{slice_get}
 use Rattle.std.specs.Option.{option_copied}
 use Rattle.std.proofs.lemmas.Result.{on_ok_weaker}
 use Rattle.mr_base.specs.declared.spans.Ask.{Ask}
 use Rattle.row_locality.specs.Plain.{Partition}
 use Rattle.sql_eval.specs.Lookups.{index_for, row_lookups, searched_partitions}
 use Rattle.sql_eval.specs.Search.{Lookup}
-use Rattle.planner.proofs.FreshLemmas.{first_looked_at, none_looked_at}
-use Rattle.planner.specs.FreshAsks.{fresh_asks_in, looked_at}
+use Rattle.planner.proofs.FreshLemmas.{first_looked_at}
 use Rattle.planner.proofs.fresh_spans.push_fresh.Goals as goal
 
 pub returns : goal.returns

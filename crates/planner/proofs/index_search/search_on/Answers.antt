@@ -1,4 +1,4 @@
-use Rattle.std.proofs.Common.{◌≡◌, ◌∙◌, List, ap, drop, subst}
+use Rattle.std.proofs.Common.{◌∙◌, List, ap, drop, subst}
 use Rattle.sql_eval.specs.OwnWrites.{reads_through}
 use Rattle.sql_eval.specs.Reads.{served_reads}
 use Rattle.sql_eval.specs.Search.{Lookup}

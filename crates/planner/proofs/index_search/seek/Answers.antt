@@ -1,10 +1,7 @@
-use Rattle.std.proofs.Common.{◌≡◌, List, [], arith, rules, drop, get_or, map, subst, ◌∙◌}
-use Rattle.std.specs.Prelude.{Some, None}
-use Rattle.region_sql.specs.declared.row_statements.Term.{Term}
+use Rattle.std.proofs.Common.{◌≡◌, arith, rules, drop, get_or, map, subst, ◌∙◌}
 use Rattle.row_locality.specs.Pairs.{key_value}
 use Rattle.sql_eval.specs.OwnWrites.{reads_through}
 use Rattle.sql_eval.specs.Reads.{served_reads}
-use Rattle.sql_eval.specs.Search.{ask_of}
 use Rattle.planner.proofs.SearchLemmas.{each_at, leads_one, needs_one, no_pairs, passes_all, passes_one, row_there, some_pairs}
 use Rattle.planner.specs.Searches.{row_lookup, sought_rows}
 use Rattle.planner.specs.Turns.{IsNeeded}

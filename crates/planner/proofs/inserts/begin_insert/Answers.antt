@@ -1,8 +1,4 @@
-use Rattle.std.proofs.Common.{List, ◌≡◌, rules, ap, ◌∙◌}
-use Rattle.std.specs.Prelude.{Result, Ok}
-use Rattle.mr_base.specs.declared.rows.Datum.{Datum}
-use Rattle.mr_base.specs.declared.states.SqlState.{SqlState}
-use Rattle.sql_eval.specs.RowWords.{default_region, made_rows}
+use Rattle.std.proofs.Common.{rules}
 use Rattle.sql_eval.specs.Tables.{named}
 use Rattle.planner.proofs.InsertLemmas.{insert_checked, insert_faulty, made_are_rows}
 use Rattle.planner.proofs.inserts.begin_insert.Goals as goal

@@ -1,5 +1,5 @@
-use Rattle.std.proofs.Common.{◌≡◌, ◌∙◌, List, sym, subst}
-use Rattle.std.specs.Prelude.{IfOk, Ok}
+use Rattle.std.proofs.Common.{◌∙◌, List, sym, subst}
+use Rattle.std.specs.Prelude.{IfOk}
 use Rattle.region_sql.specs.declared.row_statements.RowStatement.{RowStatement}
 use Rattle.sql_eval.specs.Reads.{served_reads}
 use Rattle.planner.proofs.ProgressLemmas.{list_step}

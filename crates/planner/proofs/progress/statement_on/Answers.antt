@@ -1,4 +1,4 @@
-use Rattle.std.proofs.Common.{◌≡◌, ◌∙◌, sym, subst}
+use Rattle.std.proofs.Common.{subst}
 use Rattle.sql_eval.specs.OwnWrites.{reads_through}
 use Rattle.sql_eval.specs.Reads.{served_reads}
 use Rattle.planner.proofs.ProgressLemmas.{asks_next, ends_done, has_fault}

@@ -1,7 +1,6 @@
 use Rattle.std.proofs.Common.{drop}
 use Rattle.std.specs.List.{AllByRecursion}
 use Rattle.descriptors.specs.Contents.{Contents}
-use Rattle.row_locality.specs.Decoding.{IsRegionFor}
 use Rattle.sql_eval.specs.OwnWrites.{reads_through}
 use Rattle.sql_eval.specs.Reads.{served_reads}
 use Rattle.planner.specs.Phases.{AreKeyedRowsOf, IsLookupFor}

@@ -1,9 +1,7 @@
 use Rattle.std.proofs.Common.{rules, ◌∙◌, sym, ap}
 use Rattle.std.specs.Option.{option_copied}
-use Rattle.mr_base.specs.declared.ids.RangeId.{RangeId}
 use Rattle.sql_eval.specs.Tables.{named}
 use Rattle.planner.proofs.RowWriteLemmas.{range_is, range_is_there}
-use Rattle.planner.specs.RowWrites.{place_of_region}
 use Rattle.planner.proofs.row_writes.range_of.Goals as goal
 
 pub returns-in-Some : goal.returns-in-Some

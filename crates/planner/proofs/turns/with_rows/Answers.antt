@@ -2,7 +2,7 @@ use Rattle.std.proofs.Common.{[], subst}
 use Rattle.sql_eval.specs.OwnWrites.{reads_through}
 use Rattle.sql_eval.specs.Reads.{served_reads}
 use Rattle.sql_eval.specs.Tables.{named}
-use Rattle.planner.proofs.TurnLemmas.{checked_turns, has_fault}
+use Rattle.planner.proofs.TurnLemmas.{checked_turns}
 use Rattle.planner.specs.Phases.{scanned_rows, terms_of}
 use Rattle.planner.specs.Turns.{IsFound}
 use Rattle.planner.proofs.turns.with_rows.Goals as goal

@@ -1,4 +1,4 @@
-use Rattle.std.proofs.Common.{◌≡◌, List, sym, subst, ◌∙◌}
+use Rattle.std.proofs.Common.{List, sym, subst, ◌∙◌}
 use Rattle.mr_base.specs.declared.script.Fed.{Fed}
 use Rattle.planner.proofs.PlanLemmas.{sound_setting}
 use Rattle.planner.specs.Progress.{IsStateOf}

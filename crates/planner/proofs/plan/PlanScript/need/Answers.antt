@@ -1,4 +1,4 @@
-use Rattle.std.proofs.Common.{ℕ, ◌+◌, ◌<◌, subst}
+use Rattle.std.proofs.Common.{◌+◌, ◌<◌, subst}
 use Rattle.mr_base.specs.Scripts.{AsksFor}
 use Rattle.sql_eval.specs.NextSpan.{asks_after, phases_after}
 use Rattle.planner.proofs.PlanLemmas.{counted}
