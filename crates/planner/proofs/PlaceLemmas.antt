@@ -1,5 +1,5 @@
 -- Entries by place: those of a map are those of the definitions.
-use Rattle.std.proofs.Common.{◌≡◌, ℕ, cond, List, [], ◌∷◌, ◌++◌, refl, sym, ap, ◌∙◌}
+use Rattle.std.proofs.Common.{◌≡◌, ℕ, ◌+◌, ◌<◌, ◌≤◌, cond, drop, get_or, length, List, [], ◌∷◌, ◌++◌, refl, sym, ap, ◌∙◌}
 use Rattle.std.specs.Prelude.{Option, Some, None, option_to_list}
 use Rattle.std.specs.BTreeMap.{insert_entry, is_at}
 use Rattle.std.specs.FinMap.Entries.{by_order, find, put}
@@ -7,11 +7,11 @@ use Rattle.std.specs.List.{cons_option}
 use Rattle.std.specs.Map.{lookup}
 use Rattle.std.specs.Option.{option_map_or}
 use Rattle.std.specs.Ordering.{match_ordering}
-use Rattle.std.proofs.lemmas.List.{append-nil, append_assoc}
+use Rattle.std.proofs.lemmas.List.{append-nil, append_assoc, drop_all, drop_more}
 use Rattle.std.specs.declared.cmp.Ordering.{Ordering}
 use Rattle.std.specs.declared.cmp.Ordering.TheVariants.{Less, Equal, Greater}
 use Rattle.mr_base.specs.declared.spans.Write.{Write}
-use Rattle.sql_eval.specs.OwnWrites.{FirstAndLast, OwnWrites, Place, place_cmp, with_write, write_at, writes_of}
+use Rattle.sql_eval.specs.OwnWrites.{FirstAndLast, OwnWrite, OwnWrites, Place, place_cmp, with_write, with_writes, write_at, writes_of}
 
 same_choice : {A : Type 0} (o : Ordering) (a b c d : A) → c ≡ d → match_ordering o a b c ≡ by_order o a b d
 same_choice Less a b c d e = refl
@@ -56,3 +56,16 @@ write_more held place x rest =
 pub all_written : (held : List Write) (rest own : OwnWrites) → rest ≡ [] → held ++ writes_of rest ≡ writes_of own → held ≡ writes_of own
 unfolding writes_of
 all_written held rest own e f = sym (append-nil held) ∙ ap (λ (r : OwnWrites). held ++ writes_of r) (sym e) ∙ f
+
+-- one more write is made
+pub made_more : (own new first : OwnWrites) (writes : List OwnWrite) (i : ℕ) (w : OwnWrite) → i < length writes → w ≡ get_or writes i w → new ≡ with_write own w
+    → with_writes own (drop i writes) ≡ with_writes first writes → with_writes new (drop (i + 1) writes) ≡ with_writes first writes
+unfolding with_writes
+made_more own new first writes i w lt at e h =
+    ap (λ o. with_writes o (drop (i + 1) writes)) e
+    ∙ ap (λ x. with_writes own (x ∷ drop (i + 1) writes)) at
+    ∙ ap (with_writes own) (sym (drop_more writes i w lt)) ∙ h
+
+pub all_made : (own first : OwnWrites) (writes : List OwnWrite) (i : ℕ) → length writes ≤ i → with_writes own (drop i writes) ≡ with_writes first writes → own ≡ with_writes first writes
+unfolding with_writes
+all_made own first writes i h e = ap (with_writes own) (sym (drop_all i writes h)) ∙ e

@@ -1,6 +1,6 @@
 -- The order of places, and points that cover points.
 use Rattle.std.proofs.Common.{◌≡◌, ℕ, Bool, true, false, List, [], ◌∷◌, ◌++◌, refl, sym, ap, ◌∙◌, subst}
-use Rattle.std.specs.Prelude.{◌&&◌}
+use Rattle.std.specs.Prelude.{◌&&◌, not}
 use Rattle.std.specs.Cmp.{IsTotalOrder, on_total, then_total, nat_cmp_total, tied_itself, Equal-is}
 use Rattle.std.specs.Cmp.Lexicographic.{nat_list_cmp_total}
 use Rattle.std.specs.Ordering.{eq_by_cmp, is_lt, nat_cmp, ordering_reverse}
@@ -14,8 +14,9 @@ use Rattle.mr_base.specs.Spans.{IsKeyBelow, IsInside}
 use Rattle.mr_base.specs.declared.ids.RangeId.{RangeId}
 use Rattle.mr_base.specs.declared.spans.Ask.{Ask}
 use Rattle.mr_base.specs.declared.spans.Pair.{Pair}
+use Rattle.mr_base.specs.declared.spans.Span.{Span}
 use Rattle.row_locality.specs.Pairs.{bytes_cmp}
-use Rattle.row_locality.specs.Spans.{is_inside, point_of}
+use Rattle.row_locality.specs.Spans.{is_in, is_inside, point_of}
 use Rattle.row_locality.proofs.DatumOrder.{both_equal}
 use Rattle.row_locality.proofs.PointLemmas.{is_below, is_inside_decides}
 use Rattle.sql_eval.specs.OwnWrites.{Place, place_cmp}
@@ -68,6 +69,17 @@ is_so x y n = when (is_lt (bytes_cmp x y)) refl
     when : (b : Bool) → is_lt (bytes_cmp x y) ≡ b → IsKeyBelow x y
     when true e = (is_below x y).0 e
     when false e = absurd (n (λ h. let yes : is_lt (bytes_cmp x y) ≡ true = (is_below x y).1 h in cc))
+
+-- no key lies in a span whose lower end isn't below its upper end
+pub outside : (s : Span) (key : List ℕ) → is_lt (bytes_cmp s.lo s.hi) ≡ false → is_in s key ≡ false
+outside s key e = when (is_in s key) refl
+  where
+    when : (t : Bool) → is_in s key ≡ t → is_in s key ≡ false
+    when true h =
+        let parts = and_parts _ _ h in
+        let above : ¬ IsKeyBelow key s.lo = λ k. let yes : is_lt (bytes_cmp key s.lo) ≡ true = (is_below key s.lo).1 k in let no : not (is_lt (bytes_cmp key s.lo)) ≡ true = parts.0 in absurd (cc) in
+        let yes : is_lt (bytes_cmp s.lo s.hi) ≡ true = (is_below s.lo s.hi).1 (reaches key s.lo s.hi above ((is_below key s.hi).0 parts.1)) in absurd (cc)
+    when false h = h
 
 -- a point inside a point is the same
 pub same_point : (key other : List ℕ) → is_inside (point_of key) (point_of other) ≡ true → key ≡ other

@@ -1,1 +1,11 @@
+pub mod Checks
+pub mod FreshAsks
 pub mod Numbered
+pub mod Phases
+pub mod Plans
+pub mod Progress
+pub mod Putting
+pub mod RowWrites
+pub mod Scans
+pub mod Searches
+pub mod Turns

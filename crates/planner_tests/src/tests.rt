@@ -1,0 +1,3 @@
+mod known_spans;
+mod own_writes;
+mod texts;
