@@ -68,6 +68,13 @@ short_ended serial visible placed (Some (tasks.Zones format)) o x status nothing
 short_ended serial visible placed (Some (tasks.Gen seed size)) o x status nothing unread unwritten =
     record { nothing_read = unread; nothing_run = nothing; text = inr (inr status, (0, omega arith, ap x.sink.bytes unwritten ∙ append_known-nil (start x))) }
 
+-- a scenario was generated
+pub gen_ended : {S K : Type 0} (task : Task) (seed size m n : ℕ) (o : Outcome) (x : Exchange S K) → task ≡ tasks.Gen seed size → x.source.after ≡ x.source.before → o.journal ≡ [] → ScenarioEnded seed size o.status (start x) (written x) → task ≡ tasks.Gen m n → GenEnded m n o x
+gen_ended task seed size m n o x is unread nothing text asked =
+    let seeds : seed ≡ m = cc in
+    let sizes : size ≡ n = cc in
+    record { nothing_read = unread; nothing_run = nothing; text = subst (λ (a : ℕ). ScenarioEnded a n o.status (start x) (written x)) seeds (subst (λ (b : ℕ). ScenarioEnded seed b o.status (start x) (written x)) sizes text) }
+
 pub task_ended : {S K : Type 0} → LawfulIsSerial → LawfulIsVisible → RangesArePlaced → (task : Task) (o : Outcome) (x : Exchange S K) → ((mode : Mode) → task ≡ tasks.Run mode → LinesEnded run_course (run_text mode) o x) → ((format : Format) → task ≡ tasks.Zones format → LinesEnded zones_course (zones_text format) o x) → ((seed size : ℕ) → task ≡ tasks.Gen seed size → GenEnded seed size o x) → Ended (Some task) o x
 task_ended serial visible placed (tasks.Run mode) o x ran zoned generated = run_ended serial visible mode o x (ran mode refl)
 task_ended serial visible placed (tasks.Zones format) o x ran zoned generated = zones_ended placed format o x (zoned format refl)

@@ -168,9 +168,9 @@ fn generated<K: Sink>(alloc: Global, seed: u64, size: u32, sink: &mut K) -> Outc
     ensures failed { result.status ≡ 4 → CountsFault (K.faults sink.old) (K.faults sink.new) K.most_faults }
 {
     let end = match generate(alloc, seed, size, sink) {
-        Ok(()) => End::Whole,
         Err(GenFault::Write) => End::Write,
         Err(GenFault::Memory) => End::Memory,
+        Ok(_) => End::Whole,
     };
     let status = end.status();
     Outcome {
