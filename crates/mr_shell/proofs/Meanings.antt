@@ -1,21 +1,19 @@
 -- What each task says of a run.
-use Rattle.std.proofs.Common.{◌≡◌, ◌≢◌, ℕ, List, [], Option, Some, None, refl, ap, sym, ◌∙◌, subst, inl, inr, arith}
+use Rattle.std.proofs.Common.{◌≡◌, ◌≢◌, ℕ, [], Option, Some, None, refl, ap, sym, ◌∙◌, subst, inl, inr, arith}
 use Rattle.std.specs.Prelude.{◌⊎◌}
-use Rattle.journal.specs.declared.entries.JournalEntry.{JournalEntry}
 use Rattle.journal_text.specs.declared.modes.Mode.{Mode}
 use Rattle.one_node_laws.specs.Laws.{LawfulIsSerial, LawfulIsVisible}
-use Rattle.one_node_laws.specs.Runs.{IsRun}
 use Rattle.zone_report.specs.Laws.{RangesArePlaced}
 use Rattle.zone_report.specs.declared.report.Format.{Format}
 use Rattle.mr_io.proofs.Told.{append_known-nil, prepend_known-nil}
-use Rattle.mr_shell.specs.Course.{AreRun, Course, Text}
+use Rattle.mr_shell.specs.Course.{Course, Text}
 use Rattle.mr_shell.specs.Ended.{Ended, Gives}
 use Rattle.mr_shell.specs.Ends.{status_of}
 use Rattle.mr_shell.specs.Exchange.{Exchange, HasFailed, held, left, start, written}
 use Rattle.mr_shell.specs.GenEnded.{GenEnded, ScenarioEnded}
-use Rattle.mr_shell.specs.LinesEnded.{HasEnded, LinesEnded}
+use Rattle.mr_shell.specs.LinesEnded.{LinesEnded}
 use Rattle.mr_shell.specs.RunEnded.{RunEnded, run_course, run_text}
-use Rattle.mr_shell.specs.UsageEnded.{UsageEnded, UsageLineEnded}
+use Rattle.mr_shell.specs.UsageEnded.{UsageLineEnded}
 use Rattle.mr_shell.specs.ZonesEnded.{ZonesEnded, zones_course, zones_text}
 use Rattle.mr_shell.specs.declared.outcome.End.{End}
 use Rattle.mr_shell.specs.declared.outcome.End.TheVariants as ends

@@ -1,4 +1,4 @@
-use Rattle.std.specs.Prelude.{◌≡◌, ℕ, Option, Some, None}
+use Rattle.std.specs.Prelude.{ℕ, Option, Some, None}
 use Rattle.mr_shell.specs.Exchange.{Exchange}
 use Rattle.mr_shell.specs.GenEnded.{gen_meaning}
 use Rattle.mr_shell.specs.Meaning.{Meaning}
