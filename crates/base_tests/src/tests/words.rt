@@ -60,7 +60,10 @@ const GREATEST: Option<Command> = Some(Command::Gen {
 static DRAWN: [(&[&str], Option<Command>); 24] = [
     (&["gen", "1", "0"], FIRST),
     (&["gen", "01", "00"], FIRST),
-    (&["gen", "00000000000000000001", "00000000000000000000"], FIRST),
+    (
+        &["gen", "00000000000000000001", "00000000000000000000"],
+        FIRST,
+    ),
     (&["gen", "--", "1", "0"], FIRST),
     (&["--", "gen", "1", "0"], FIRST),
     (&["gen", "18446744073709551615", "20000"], GREATEST),
