@@ -9,3 +9,4 @@ pub mod AllWords
 pub mod Answer
 pub mod Outcome
 pub mod MatchLemmas
+pub mod Numbers

@@ -1,7 +1,10 @@
-use Rattle.std.specs.Prelude.{Bool, true, false, if◌then◌else◌, ◌==◌, List, ℕ, [], ◌∷◌, map, Option, Some, None, option_and_then, option_map, bytes_eq, codes, String, string_bytes}
+use Rattle.std.specs.Prelude.{Bool, true, false, if◌then◌else◌, ◌==◌, ◌&&◌, ◌||◌, ◌-◌, ◌^◌, nat_le, length, List, ℕ, [], ◌∷◌, map, Option, Some, None, option_and_then, option_map, bytes_eq, codes, String, string_bytes}
+use Rattle.std.specs.List.{list_all}
+use Rattle.std.specs.Char.{is_ascii_digit}
+use Rattle.std.specs.Str.Parse.{digits_value}
 use Rattle.std.specs.declared.alloc.Global.{Global}
 use Rattle.command_words.specs.declared.words.Command.{Command}
-use Rattle.command_words.specs.declared.words.Command.TheVariants.{Run, Zones}
+use Rattle.command_words.specs.declared.words.Command.TheVariants.{Gen, Run, Zones}
 
 -- The grammar of words.
 
@@ -50,9 +53,29 @@ command_named name trace json =
     else if bytes_eq name (codes "zones") then (if trace then None else Some (Zones json))
     else None
 
--- A command has one name. (This project's profile.)
+-- A number is 1 to 20 decimal digits, leading zeros too. (This project's profile.)
+abbrev pub is_number : List ℕ → Bool
+is_number word = nat_le 1 (length word) && nat_le (length word) 20 && list_all is_ascii_digit word
+
+-- What a number stands for, where that isn't more than the most. (This project's profile.)
+abbrev pub number_up_to : (most : ℕ) → List ℕ → Option ℕ
+number_up_to most word =
+    if is_number word then (if nat_le (digits_value 10 word) most then Some (digits_value 10 word) else None) else None
+
+-- A seed of 64 bits, and a size of at most 20,000 transactions. (This project's profile.)
+abbrev pub gen_of : (seed size : List ℕ) → Option Command
+gen_of seed size =
+    option_and_then (λ n. option_map (λ m. Gen n m) (number_up_to 20000 size)) (number_up_to (2 ^ 64 - 1) seed)
+
+-- `gen` has two numbers behind it, and no flag. (This project's profile.)
+abbrev pub command_drawn : (name seed size : List ℕ) → (trace json : Bool) → Option Command
+command_drawn name seed size trace json =
+    if bytes_eq name (codes "gen") then (if trace || json then None else gen_of seed size) else None
+
+-- A command has one name, or a name and two numbers. (This project's profile.)
 abbrev pub command_with : List (List ℕ) → (trace json : Bool) → Option Command
 command_with (name ∷ []) trace json = command_named name trace json
+command_with (name ∷ seed ∷ size ∷ []) trace json = command_drawn name seed size trace json
 command_with _ trace json = None
 
 -- The command that flags and names are. (This project's profile.)

@@ -15,6 +15,8 @@ pub enum Command {
     Run { trace: bool },
     /// Read a scenario's nodes and statements and write its ranges; with `json` as JSON.
     Zones { json: bool },
+    /// Write the scenario that is generated from a seed, with so many transactions, at most 20,000.
+    Gen { seed: u64, size: u32 },
 }
 
 /// The command that the words are, if they are one. Errors: want of memory.

@@ -1,20 +1,19 @@
 -- What each task says of a run.
-use Rattle.std.proofs.Common.{◌≡◌, ◌≢◌, ℕ, List, [], Option, Some, None, refl, ap, sym, ◌∙◌, subst, inl, inr, arith}
+use Rattle.std.proofs.Common.{◌≡◌, ◌≢◌, ℕ, [], Option, Some, None, refl, ap, sym, ◌∙◌, subst, inl, inr, arith}
 use Rattle.std.specs.Prelude.{◌⊎◌}
-use Rattle.journal.specs.declared.entries.JournalEntry.{JournalEntry}
 use Rattle.journal_text.specs.declared.modes.Mode.{Mode}
 use Rattle.one_node_laws.specs.Laws.{LawfulIsSerial, LawfulIsVisible}
-use Rattle.one_node_laws.specs.Runs.{IsRun}
 use Rattle.zone_report.specs.Laws.{RangesArePlaced}
 use Rattle.zone_report.specs.declared.report.Format.{Format}
-use Rattle.mr_io.proofs.Told.{prepend_known-nil}
-use Rattle.mr_shell.specs.Course.{AreRun, Course, Text}
+use Rattle.mr_io.proofs.Told.{append_known-nil, prepend_known-nil}
+use Rattle.mr_shell.specs.Course.{Course, Text}
 use Rattle.mr_shell.specs.Ended.{Ended, Gives}
 use Rattle.mr_shell.specs.Ends.{status_of}
 use Rattle.mr_shell.specs.Exchange.{Exchange, HasFailed, held, left, start, written}
-use Rattle.mr_shell.specs.LinesEnded.{HasEnded, LinesEnded}
+use Rattle.mr_shell.specs.GenEnded.{GenEnded, ScenarioEnded}
+use Rattle.mr_shell.specs.LinesEnded.{LinesEnded}
 use Rattle.mr_shell.specs.RunEnded.{RunEnded, run_course, run_text}
-use Rattle.mr_shell.specs.UsageEnded.{UsageEnded, UsageLineEnded}
+use Rattle.mr_shell.specs.UsageEnded.{UsageLineEnded}
 use Rattle.mr_shell.specs.ZonesEnded.{ZonesEnded, zones_course, zones_text}
 use Rattle.mr_shell.specs.declared.outcome.End.{End}
 use Rattle.mr_shell.specs.declared.outcome.End.TheVariants as ends
@@ -64,10 +63,20 @@ short_ended serial visible placed (Some (tasks.Run mode)) o x status nothing unr
     run_ended serial visible mode o x (lines_none run_course (run_text mode) o x no_line_run refl status nothing (ap x.source.bytes unread) (ap x.sink.bytes unwritten))
 short_ended serial visible placed (Some (tasks.Zones format)) o x status nothing unread unwritten =
     zones_ended placed format o x (lines_none zones_course (zones_text format) o x refl refl status nothing (ap x.source.bytes unread) (ap x.sink.bytes unwritten))
+short_ended serial visible placed (Some (tasks.Gen seed size)) o x status nothing unread unwritten =
+    record { nothing_read = unread; nothing_run = nothing; text = inr (inr status, (0, omega arith, ap x.sink.bytes unwritten ∙ append_known-nil (start x))) }
 
-pub task_ended : {S K : Type 0} → LawfulIsSerial → LawfulIsVisible → RangesArePlaced → (task : Task) (o : Outcome) (x : Exchange S K) → ((mode : Mode) → task ≡ tasks.Run mode → LinesEnded run_course (run_text mode) o x) → ((format : Format) → task ≡ tasks.Zones format → LinesEnded zones_course (zones_text format) o x) → Ended (Some task) o x
-task_ended serial visible placed (tasks.Run mode) o x ran zoned = run_ended serial visible mode o x (ran mode refl)
-task_ended serial visible placed (tasks.Zones format) o x ran zoned = zones_ended placed format o x (zoned format refl)
+-- a scenario was generated
+pub gen_ended : {S K : Type 0} (task : Task) (seed size m n : ℕ) (o : Outcome) (x : Exchange S K) → task ≡ tasks.Gen seed size → x.source.after ≡ x.source.before → o.journal ≡ [] → ScenarioEnded seed size o.status (start x) (written x) → task ≡ tasks.Gen m n → GenEnded m n o x
+gen_ended task seed size m n o x is unread nothing text asked =
+    let seeds : seed ≡ m = cc in
+    let sizes : size ≡ n = cc in
+    record { nothing_read = unread; nothing_run = nothing; text = subst (λ (a : ℕ). ScenarioEnded a n o.status (start x) (written x)) seeds (subst (λ (b : ℕ). ScenarioEnded seed b o.status (start x) (written x)) sizes text) }
+
+pub task_ended : {S K : Type 0} → LawfulIsSerial → LawfulIsVisible → RangesArePlaced → (task : Task) (o : Outcome) (x : Exchange S K) → ((mode : Mode) → task ≡ tasks.Run mode → LinesEnded run_course (run_text mode) o x) → ((format : Format) → task ≡ tasks.Zones format → LinesEnded zones_course (zones_text format) o x) → ((seed size : ℕ) → task ≡ tasks.Gen seed size → GenEnded seed size o x) → Ended (Some task) o x
+task_ended serial visible placed (tasks.Run mode) o x ran zoned generated = run_ended serial visible mode o x (ran mode refl)
+task_ended serial visible placed (tasks.Zones format) o x ran zoned generated = zones_ended placed format o x (zoned format refl)
+task_ended serial visible placed (tasks.Gen seed size) o x ran zoned generated = generated seed size refl
 
 -- where no call failed, the status is the one that the task gives
 lines_exact : {S K : Type 0} (o : Outcome) (x : Exchange S K) (end : End) (status : ℕ) → o.status ≡ status_of end → (o.status ≡ 3 → HasFailed x.source) → (o.status ≡ 4 → HasFailed x.sink) → ¬ HasFailed x.source → ¬ HasFailed x.sink → ((end ≢ ends.Read) → (end ≢ ends.Write) → (status_of end ≡ status) ⊎ (status_of end ≡ 5)) → (o.status ≡ status) ⊎ (o.status ≡ 5)
@@ -79,6 +88,11 @@ usage_exact o x (inl h) write unwritten status gives = inl (h.0 ∙ sym gives)
 usage_exact o x (inr (inl h)) write unwritten status gives = absurd (unwritten (write h.0))
 usage_exact o x (inr (inr h)) write unwritten status gives = inr h.0
 
+gen_exact : {S K : Type 0} (seed size : ℕ) (o : Outcome) (x : Exchange S K) → ScenarioEnded seed size o.status (start x) (written x) → (o.status ≡ 4 → HasFailed x.sink) → ¬ HasFailed x.sink → (status : ℕ) → status ≡ 0 → (o.status ≡ status) ⊎ (o.status ≡ 5)
+gen_exact seed size o x (inl h) write unwritten status gives = inl (h.0 ∙ sym gives)
+gen_exact seed size o x (inr (inl h, part)) write unwritten status gives = absurd (unwritten (write h))
+gen_exact seed size o x (inr (inr h, part)) write unwritten status gives = inr h
+
 pub exact : {S K : Type 0} (task : Option Task) (o : Outcome) (x : Exchange S K) → Ended task o x → (o.status ≡ 3 → HasFailed x.source) → (o.status ≡ 4 → HasFailed x.sink) → ¬ HasFailed x.source → ¬ HasFailed x.sink → (status : ℕ) → Gives task x status → (o.status ≡ status) ⊎ (o.status ≡ 5)
 exact None o x h read write unread unwritten status gives = usage_exact o x h.line write unwritten status gives
 exact (Some (tasks.Run mode)) o x h read write unread unwritten status gives =
@@ -87,3 +101,4 @@ exact (Some (tasks.Run mode)) o x h read write unread unwritten status gives =
 exact (Some (tasks.Zones format)) o x h read write unread unwritten status gives =
     let l = h.ended in
     lines_exact o x l.end status l.status read write unread unwritten (exact_lines zones_course no_zone_fault (zones_text format) l.taken (held x) (left x) o.journal (start x) (written x) l.end status l.told l.ended gives)
+exact (Some (tasks.Gen seed size)) o x h read write unread unwritten status gives = gen_exact seed size o x h.text write unwritten status gives

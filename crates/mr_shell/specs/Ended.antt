@@ -1,5 +1,6 @@
-use Rattle.std.specs.Prelude.{◌≡◌, ℕ, Option, Some, None}
+use Rattle.std.specs.Prelude.{ℕ, Option, Some, None}
 use Rattle.mr_shell.specs.Exchange.{Exchange}
+use Rattle.mr_shell.specs.GenEnded.{gen_meaning}
 use Rattle.mr_shell.specs.Meaning.{Meaning}
 use Rattle.mr_shell.specs.RunEnded.{run_meaning}
 use Rattle.mr_shell.specs.UsageEnded.{usage_meaning}
@@ -13,6 +14,7 @@ abbrev pub meaning_of : {S K : Type 0} → Option Task → Meaning S K
 meaning_of None = usage_meaning
 meaning_of (Some (tasks.Run mode)) = run_meaning mode
 meaning_of (Some (tasks.Zones format)) = zones_meaning format
+meaning_of (Some (tasks.Gen seed size)) = gen_meaning seed size
 
 -- A run has ended as its task says, with this outcome.
 abbrev pub Ended : {S K : Type 0} → Option Task → Outcome → Exchange S K → Type 0

@@ -3,6 +3,7 @@ pub mod Course
 pub mod Ended
 pub mod Ends
 pub mod Exchange
+pub mod GenEnded
 pub mod Gives
 pub mod LinesEnded
 pub mod Meaning

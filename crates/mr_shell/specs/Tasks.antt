@@ -13,6 +13,7 @@ use Rattle.mr_shell.specs.declared.tasks.Task.TheVariants as tasks
 abbrev pub task_for : Command → Task
 task_for (commands.Run trace) = tasks.Run (if trace then Trace else Answers)
 task_for (commands.Zones json) = tasks.Zones (if json then Json else Text)
+task_for (commands.Gen seed size) = tasks.Gen seed size
 
 -- What the words ask for, if they are a command.
 abbrev pub task_of : List (String Global) → Option Task

@@ -36,6 +36,8 @@ fn main(rt: HostRuntime) -> ExitCode {
 }
 
 #[cfg(test)]
+mod gen_tests;
+#[cfg(test)]
 mod tests;
 #[cfg(test)]
 mod zone_tests;

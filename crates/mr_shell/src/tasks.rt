@@ -16,6 +16,8 @@ pub enum Task {
     Run(Mode),
     /// Read the nodes and statements of a scenario and write its ranges so.
     Zones(Format),
+    /// Write the scenario that is generated from a seed, with so many transactions.
+    Gen { seed: u64, size: u32 },
 }
 
 fn task_for(command: Command) -> Task
@@ -26,6 +28,7 @@ fn task_for(command: Command) -> Task
         Command::Run { trace: false } => Task::Run(Mode::Answers),
         Command::Zones { json: true } => Task::Zones(Format::Json),
         Command::Zones { json: false } => Task::Zones(Format::Text),
+        Command::Gen { seed, size } => Task::Gen { seed, size },
     }
 }
 

@@ -5,13 +5,14 @@ ghost use Rattle.mr_io.specs.Faults.{CountsFault};
 ghost use Rattle.mr_shell.specs.Ended.{Ended, Gives};
 ghost use Rattle.mr_shell.specs.Ends.{IsStatus, EndsPieces};
 ghost use Rattle.mr_shell.specs.Exchange.{HasFailed, exchange, side};
+ghost use Rattle.mr_shell.specs.GenEnded.{GenEnded, ScenarioEnded};
 ghost use Rattle.mr_shell.specs.LinesEnded.{LinesEnded};
 ghost use Rattle.mr_shell.specs.RunEnded.{run_course, run_text};
 ghost use Rattle.mr_shell.specs.Tasks.{task_of};
 ghost use Rattle.mr_shell.specs.Texts.{IsTold, Says, last_line};
 ghost use Rattle.mr_shell.specs.UsageEnded.{UsageLineEnded};
 ghost use Rattle.mr_shell.specs.ZonesEnded.{zones_course, zones_text};
-ghost use Rattle.mr_shell.specs.declared.tasks.Task.TheVariants.{Run, Zones as ZonesIn};
+ghost use Rattle.mr_shell.specs.declared.tasks.Task.TheVariants.{Gen as GenOf, Run, Zones as ZonesIn};
 ghost use Rattle.zone_report.specs.declared.report.Format.{Format as AnyFormat};
 ghost use Rattle.journal_text.specs.declared.modes.Mode.{Mode as AnyMode};
 
@@ -25,6 +26,7 @@ use mr_io::{Sink, Source};
 use one_node_laws::{lawful_is_serial, lawful_is_visible};
 use scenario::{Journal, Mode};
 use std::alloc::Global;
+use workload::{GenFault, generate};
 use zone_report::{Format, ranges_are_placed};
 
 /// The line of a usage fault.
@@ -104,12 +106,16 @@ fn carry_out<S: Source, K: Sink>(alloc: Global, task: Task, source: &mut S, sink
     ensures zoned { (format : AnyFormat) → task ≡ ZonesIn format → LinesEnded zones_course (zones_text format) result
         (exchange (side source.old source.new S.left S.faults S.most_faults)
         (side sink.old sink.new K.written K.faults K.most_faults)) }
+    ensures generated { (seed size : ℕ) → task ≡ GenOf seed size → GenEnded seed size result
+        (exchange (side source.old source.new S.left S.faults S.most_faults)
+        (side sink.old sink.new K.written K.faults K.most_faults)) }
     ensures read_failed { result.status ≡ 3 → CountsFault (S.faults source.old) (S.faults source.new) S.most_faults }
     ensures write_failed { result.status ≡ 4 → CountsFault (K.faults sink.old) (K.faults sink.new) K.most_faults }
 {
     match task {
         Task::Run(mode) => run(alloc, mode, source, sink),
         Task::Zones(format) => zones(alloc, format, source, sink),
+        Task::Gen { seed, size } => generated(alloc, seed, size, sink),
     }
 }
 
@@ -146,6 +152,25 @@ fn zones<S: Source, K: Sink>(alloc: Global, format: Format, source: &mut S, sink
     let end = match run_source(alloc, &mut session, source, sink) {
         Ok(()) => session.write_report(format, sink),
         Err(end) => say(alloc, end, sink),
+    };
+    let status = end.status();
+    Outcome {
+        status,
+        journal: Journal::new(alloc),
+    }
+}
+
+/// Writes the scenario of this seed with so many transactions.
+fn generated<K: Sink>(alloc: Global, seed: u64, size: u32, sink: &mut K) -> Outcome
+    ensures status { (result.status ≡ 0) ⊎ ((result.status ≡ 4) ⊎ (result.status ≡ 5)) }
+    ensures journal { result.journal ≡ [] }
+    ensures text { ScenarioEnded seed size result.status (K.written sink.old) (K.written sink.new) }
+    ensures failed { result.status ≡ 4 → CountsFault (K.faults sink.old) (K.faults sink.new) K.most_faults }
+{
+    let end = match generate(alloc, seed, size, sink) {
+        Err(GenFault::Write) => End::Write,
+        Err(GenFault::Memory) => End::Memory,
+        Ok(_) => End::Whole,
     };
     let status = end.status();
     Outcome {

@@ -269,7 +269,7 @@ fn other_words_are_no_command(rt: HostRuntime) -> Result<(), Fail> {
         "zones --json --json",
         "run zones",
         "zones -- --json",
-        "gen 1 1",
+        "work 1 1",
         "-1",
         "",
     ];

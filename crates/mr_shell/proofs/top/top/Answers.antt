@@ -31,7 +31,7 @@ pub returns-in-Some-clause-ended : goal.returns-in-Some-clause-ended
 returns-in-Some-clause-ended g c =
     let x = exchange (side c.args.source.now c.carry_out.new.source g.S.Source.left g.S.Source.faults g.S.Source.most_faults) (side c.args.sink.now c.carry_out.new.sink g.K.Sink.written g.K.Sink.faults g.K.Sink.most_faults) in
     let some : task_of c.args.words.now ≡ Some c.in-Some.task = sym c.in-Ok.ensures ∙ c.in-Some.is in
-    subst (λ (task : Option Task). Ended task c.carry_out.result x) (sym some) (task_ended c.lawful_is_serial.ensures c.lawful_is_visible.ensures c.ranges_are_placed.ensures c.in-Some.task c.carry_out.result x c.carry_out.ensures.ran c.carry_out.ensures.zoned)
+    subst (λ (task : Option Task). Ended task c.carry_out.result x) (sym some) (task_ended c.lawful_is_serial.ensures c.lawful_is_visible.ensures c.ranges_are_placed.ensures c.in-Some.task c.carry_out.result x c.carry_out.ensures.ran c.carry_out.ensures.zoned c.carry_out.ensures.generated)
 
 pub returns-in-Some-clause-exact : goal.returns-in-Some-clause-exact
 returns-in-Some-clause-exact g c =
