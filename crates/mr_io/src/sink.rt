@@ -29,7 +29,8 @@ pub trait Sink {
         ensures never_falls { faults self.old ≤ faults self.new };
 }
 
-/// Writes all the bytes, in as many pieces as the sink takes, and stops at the first write that fails.
+/// Writes all the bytes, in as many pieces as the sink takes, and stops at the first write that fails: some of them were
+/// left to write then.
 pub fn write_all<K: Sink>(sink: &mut K, bytes: &[u8]) -> Result<(), Failed>
     ensures all { OnOk result (K.written sink.new ≡ append_known (K.written sink.old) bytes.now) }
     ensures part { OnErr result (WrotePrefix (K.written sink.old) (K.written sink.new) bytes.now) }

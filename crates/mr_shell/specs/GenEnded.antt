@@ -8,7 +8,8 @@ use Rattle.mr_shell.specs.declared.outcome.Outcome.{Outcome}
 
 -- The command `gen`.
 
--- The scenario of this seed and this size is written; a first part of it where a write fails or memory runs out.
+-- The scenario of this seed and this size is written; a first part of it, and not the whole, where a write fails or
+-- memory runs out.
 abbrev pub ScenarioEnded : (seed size status : ℕ) → (start written : Option (List ℕ)) → Type 0
 ScenarioEnded seed size status start written =
     ((status ≡ 0) × Wrote start written (gen_text seed size))

@@ -9,14 +9,18 @@ use Rattle.mr_io.proofs.Told.{append_known-append}
 use Rattle.workload.specs.Generated.{transaction_text, transactions_text, words_after}
 use Rattle.workload.specs.Draws.{behind, drawn}
 
--- a text that was written whole
-pub prefix_whole : (old new : Option (List ℕ)) (xs : List ℕ) → new ≡ append_known old xs → WrotePrefix old new xs
-prefix_whole old new xs is = (length xs, omega arith, is ∙ ap (append_known old) (sym (take-length xs)))
+-- a text of which the rest is left
+prefix_left : (old new : Option (List ℕ)) (xs ys : List ℕ) → new ≡ append_known old xs → 0 < length ys → WrotePrefix old new (xs ++ ys)
+prefix_left old new xs ys is some = (
+  length xs,
+  omega (arith, some, length-append xs ys),
+  is ∙ ap (append_known old) (sym (take-append-le (length xs) xs ys (omega arith) ∙ take-length xs)),
+)
 
 -- a first part of a text is one of a longer text too
 pub prefix_front : (old new : Option (List ℕ)) (xs ys : List ℕ) → WrotePrefix old new xs → WrotePrefix old new (xs ++ ys)
 prefix_front old new xs ys h =
-    (h.0, omega (arith, h.1, length-append xs ys), h.2 ∙ ap (append_known old) (sym (take-append-le h.0 xs ys h.1)))
+    (h.0, omega (arith, h.1, length-append xs ys), h.2 ∙ ap (append_known old) (sym (take-append-le h.0 xs ys (omega (arith, h.1)))))
 
 -- a first part of a text behind another text
 pub prefix_behind : (old mid new : Option (List ℕ)) (xs ys : List ℕ) → mid ≡ append_known old xs → WrotePrefix mid new ys → WrotePrefix old new (xs ++ ys)
@@ -55,7 +59,7 @@ prefix_more old new seed done (suc more) zero is h = absurd (omega (arith, is))
 prefix_more old new seed done (suc more) (suc size) is h =
     prefix_front old new (transactions_text size seed) (transaction_text (drawn (suc size) (words_after size seed))) (prefix_more old new seed done more size (omega (arith, is)) h)
 
-pub prefix_of_all : (old new : Option (List ℕ)) (seed done size : ℕ) → done ≤ size → WrotePrefix old new (transactions_text done seed) → WrotePrefix old new (transactions_text size seed)
+prefix_of_all : (old new : Option (List ℕ)) (seed done size : ℕ) → done ≤ size → WrotePrefix old new (transactions_text done seed) → WrotePrefix old new (transactions_text size seed)
 prefix_of_all old new seed done size within h = prefix_more old new seed done (size - done) size (omega (arith, within)) h
 
 -- a part of one more transaction was written
@@ -63,3 +67,10 @@ pub prefix_in_next : (seed done next size : ℕ) (words : Lcg) (old held new : O
 prefix_in_next seed done next size words old held new lines follows within is h are part =
     prefix_of_all old new seed next size (omega (arith, within, follows))
     (subst (WrotePrefix old new) (text_more seed done next words lines follows is are) (prefix_behind old held new (transactions_text done seed) lines h part))
+
+-- the transactions behind some of them are left
+pub prefix_before_next : (old held : Option (List ℕ)) (seed done size : ℕ) → done < size → held ≡ append_known old (transactions_text done seed) → WrotePrefix old held (transactions_text size seed)
+unfolding transactions_text
+prefix_before_next old held seed done size within h =
+    prefix_of_all old held seed (suc done) size within
+    (prefix_left old held (transactions_text done seed) (transaction_text (drawn (suc done) (words_after done seed))) h (omega arith))

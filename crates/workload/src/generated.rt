@@ -171,7 +171,8 @@ fn write_transactions<K: Sink>(
 }
 
 /// Writes the scenario of a seed with so many transactions, piece by piece. Errors: a write that failed, which the sink
-/// has counted, and want of memory; what was written then is a first part of the scenario.
+/// has counted, and want of memory; what was written then is a first part of the scenario, and something of it was left
+/// to write.
 pub fn generate<K: Sink>(alloc: Global, seed: u64, size: u32, sink: &mut K) -> Result<(), GenFault>
     ensures all { OnOk result (K.written sink.new ≡ append_known (K.written sink.old) (gen_text seed size)) }
     ensures part { OnErr result (WrotePrefix (K.written sink.old) (K.written sink.new) (gen_text seed size)) }

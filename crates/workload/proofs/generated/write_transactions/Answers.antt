@@ -1,7 +1,6 @@
 use Rattle.std.proofs.Common.{◌+◌, ◌∙◌, arith}
 use Rattle.std.proofs.lemmas.Result.{err_from_is_err_and}
-use Rattle.workload.specs.Generated.{transactions_text}
-use Rattle.workload.proofs.Prefixes.{prefix_in_next, prefix_of_all, prefix_whole, words_more, written_more}
+use Rattle.workload.proofs.Prefixes.{prefix_before_next, prefix_in_next, words_more, written_more}
 use Rattle.workload.proofs.generated.write_transactions.Goals as goal
 
 pub returns-in_err-lines-clause-part : goal.returns-in_err-lines-clause-part
@@ -10,7 +9,7 @@ returns-in_err-lines-clause-part g c =
     let old = g.K.Sink.written c.args.sink.now in
     let held = g.K.Sink.written l.sink in
     rw (err_from_is_err_and c.from_residual.result c.from_residual.ensures.1).1
-    (prefix_of_all old held c.args.seed l.done c.args.size (omega (arith, c.loop-done-test.true)) (prefix_whole old held (transactions_text l.done c.args.seed) l.invariant.written))
+    (prefix_before_next old held c.args.seed l.done c.args.size c.loop-done-test.true l.invariant.written)
 
 pub returns-in_err-write_all-clause-part : goal.returns-in_err-write_all-clause-part
 returns-in_err-write_all-clause-part g c =
