@@ -41,6 +41,13 @@ impl Clock {
         self.physical += ms;
     }
 
+    /// The physical part, in milliseconds.
+    pub fn physical(&self) -> u64
+        ensures { result ≡ self.now.physical }
+    {
+        self.physical
+    }
+
     /// What the clock shows: its physical part where that is ahead of what is kept, else what is kept.
     pub fn reading(&self) -> Reading
         ensures shown { result ≡ reading_of self.now.physical self.now.kept }

@@ -7,7 +7,7 @@ mod journal;
 mod settings;
 
 pub use entries::{How, JournalEntry, LeaseWhy, Shown, SqlWhy, Why};
-pub use events::Event;
+pub use events::{Event, copy_of_event};
 pub use journal::Journal;
 pub use mr_base::{StatementResult, Verb};
 pub use settings::standard_settings;
