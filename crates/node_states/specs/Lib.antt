@@ -1,3 +1,4 @@
-pub mod Stage
+pub mod Moves
 pub mod Placed
+pub mod Stage
 pub mod Ties

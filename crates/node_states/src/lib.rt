@@ -1,8 +1,10 @@
 //! What a cluster begins with, what is kept of each of its nodes, and how both stand to what has happened.
 #![tactic(auto)]
 
+mod moves;
 mod stage;
 mod states;
 
+pub use moves::{Move, can_not_move, move_nodes, move_of};
 pub use stage::{NodePlan, RangePlan, Stage};
 pub use states::NodeState;
