@@ -2,7 +2,7 @@ use Rattle.std.specs.List.{All}
 use Rattle.std.specs.Prelude.{Bool, List, None, Option, Some, length, map, true, ℕ, ⊤, ◌↔◌, ◌≡◌, ◌≤◌}
 use Rattle.journal.specs.declared.entries.Shown.TheVariants as shown
 use Rattle.journal.specs.declared.entries.Shown.{Shown}
-use Rattle.mr_base.specs.Nodes.{IsMember, IsNode}
+use Rattle.mr_base.specs.Nodes.{IsMember}
 use Rattle.mr_base.specs.declared.ids.MsgId.{MsgId}
 use Rattle.mr_base.specs.declared.ids.NodeId.{NodeId}
 use Rattle.mr_base.specs.declared.messages.Body.TheVariants as bodies
@@ -12,8 +12,13 @@ use Rattle.mr_base.specs.declared.messages.Reply.TheVariants as replies
 use Rattle.mr_base.specs.declared.messages.Reply.{Reply}
 use Rattle.mr_base.specs.declared.nodes.NodeSet.{NodeSet}
 use Rattle.mr_base.specs.declared.timestamps.Reading.{Reading}
+use Rattle.node_states.specs.Stage.{AreNumbered}
 use Rattle.node_states.specs.declared.states.NodeState.{NodeState}
-use Rattle.run_words.specs.Messages.{Mail}
+use Rattle.run_words.specs.Clocks.{phys, seen}
+use Rattle.run_words.specs.History.{History}
+use Rattle.run_words.specs.Messages.{Mail, flight, mail}
+use Rattle.run_words.specs.Nodes.{boot, is_running}
+use Rattle.run_words.specs.Setup.{Setup}
 
 -- How what is kept of nodes and messages stands to what happened. Each tie takes the words that it speaks of as
 -- functions, so that an item at which they don't look keeps it.
@@ -25,10 +30,15 @@ pub record IsNodeTied (phys : NodeId → ℕ) (seen : NodeId → Reading) (boot 
   pub boot_is : node.boot ≡ boot node.id
   pub runs_is : node.runs ≡ runs node.id
 
--- So it is with all nodes, and the set of those that run.
+-- A set has a node exactly where that runs.
+abbrev pub IsAmong : NodeSet → NodeState → Type 0
+IsAmong running node = IsMember running node.id ↔ (node.runs ≡ true)
+
+-- So it is with all nodes, which stand in the order of their numbers, and a set has those that run.
 pub record AreNodesTied (phys : NodeId → ℕ) (seen : NodeId → Reading) (boot : NodeId → ℕ) (runs : NodeId → Bool) (nodes : List NodeState) (running : NodeSet) : Type 0 where
   pub each : All (IsNodeTied phys seen boot runs) nodes
-  pub running_are : (n : NodeId) → IsNode n → IsMember running n ↔ (runs n ≡ true)
+  pub numbered : AreNumbered 0 (map (λ node. node.id.0) nodes)
+  pub running_are : All (IsAmong running) nodes
 
 -- What the journal shows of a body.
 abbrev pub shown_reply : Reply → Shown
@@ -51,3 +61,9 @@ pub record AreMailsTied (mail : MsgId → Option Mail) (flight : List MsgId) (se
   pub each : All (IsMailTied mail) messages
   pub numbers : map (λ m. m.id) messages ≡ flight
   pub given : All (λ m. m.id.0 ≤ sent) messages
+
+abbrev pub NodesTied : Setup → History → List NodeState → NodeSet → Type 0
+NodesTied setup h nodes running = AreNodesTied (phys setup h) (seen setup h) (boot setup h) (is_running setup h) nodes running
+
+abbrev pub MailsTied : History → ℕ → List Message → Type 0
+MailsTied h sent messages = AreMailsTied (mail h) (flight h) sent messages
