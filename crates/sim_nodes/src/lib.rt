@@ -5,5 +5,8 @@
 mod attempts;
 mod endings;
 mod lines;
+mod nodes;
 mod state;
 
+
+pub use nodes::Nodes;
