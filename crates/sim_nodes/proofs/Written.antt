@@ -13,22 +13,25 @@ written old mid new e room r w = ap (λ (l : LedgerValue). l.history) w ∙ ap (
 abbrev with_ledger : State → LedgerValue → State
 with_ledger s l = record s { ledger = l }
 
--- a state of which nothing but the ledger has changed has made an entry
-pub made_entry : (s : State) (mid new : LedgerValue) (e : JournalEntry) (room : _) → mid ≡ record s.ledger { room = mid.room }
-    → new ≡ record mid { history = Made e ∷ mid.history; room = room } → IsTiedTo (Made e ∷ past s) s
-    → HasMade (Made e ∷ []) s (record s { ledger = new })
-made_entry s mid new e room r w t =
+tied_with : (t : State) (l : LedgerValue) (h : History) → IsTiedTo h t → IsTiedTo h (with_ledger t l)
+tied_with t l h i =
     record {
-      stage = refl;
+      staged = i.staged;
+      laws = i.laws;
+      count = i.count;
+      nodes_are = i.nodes_are;
+      mails_are = i.mails_are;
+      begun_are = i.begun_are;
+      sent_are = i.sent_are;
+    }
+
+-- what was changed beside the ledger is tied with the entry that was made
+pub made_entry : (s t : State) → t.stage ≡ s.stage → (mid new : LedgerValue) (e : JournalEntry) (room : _) → mid ≡ record s.ledger { room = mid.room }
+    → new ≡ record mid { history = Made e ∷ mid.history; room = room } → IsTiedTo (Made e ∷ past s) t
+    → HasMade (Made e ∷ []) s (record t { ledger = new })
+made_entry s t same mid new e room r w tied =
+    record {
+      stage = same;
       history = written s.ledger mid new e room r w;
-      tied = subst (λ (h : History). IsTiedTo h (with_ledger s new)) (sym (written s.ledger mid new e room r w))
-          (record {
-            staged = t.staged;
-            laws = t.laws;
-            count = t.count;
-            nodes_are = t.nodes_are;
-            mails_are = t.mails_are;
-            begun_are = t.begun_are;
-            sent_are = t.sent_are;
-          });
+      tied = subst (λ (h : History). IsTiedTo h (with_ledger t new)) (sym (written s.ledger mid new e room r w)) (tied_with t new (Made e ∷ past s) tied);
     }

@@ -17,9 +17,9 @@ use std::marker::Model;
 /// call has failed for want of memory the entries made so far stand, and no call follows.
 #[derive(Drop)]
 pub struct Nodes {
-    alloc: Global,
-    state: State,
-    ended: bool,
+    pub alloc: Global,
+    pub state: State,
+    pub ended: bool,
 }
 
 impl Model for Nodes {
