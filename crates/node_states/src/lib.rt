@@ -6,7 +6,7 @@ mod running;
 mod stage;
 mod states;
 
-pub use moves::{Move, can_not_move, move_nodes, move_of};
-pub use running::running_nodes;
+pub use moves::{Move, can_not_move, move_of};
+pub use running::move_all;
 pub use stage::{NodePlan, RangePlan, Stage};
 pub use states::NodeState;

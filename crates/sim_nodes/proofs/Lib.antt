@@ -1,3 +1,4 @@
 pub mod EndingLemmas
+pub mod LineLemmas
 pub mod QuietLemmas
 pub mod Written
