@@ -1,8 +1,9 @@
-use Rattle.std.specs.Prelude.{Bool, None, Some, false, if◌then◌else◌, nat_le, true, ℕ, ◌+◌, ◌==◌, ◌^◌}
-use Rattle.hlc.specs.Readings.{nothing}
+use Rattle.std.specs.Prelude.{Bool, None, Option, Some, false, if◌then◌else◌, nat_le, true, ℕ, ◌+◌, ◌==◌, ◌^◌}
+use Rattle.hlc.specs.Readings.{greater, nothing}
 use Rattle.journal.specs.declared.events.Event.TheVariants as events
 use Rattle.journal.specs.declared.events.Event.{Event}
 use Rattle.mr_base.specs.declared.ids.NodeId.{NodeId}
+use Rattle.mr_base.specs.declared.timestamps.Reading.{Reading}
 use Rattle.node_states.specs.declared.moves.Move.TheVariants as moves
 use Rattle.node_states.specs.declared.moves.Move.{Move}
 use Rattle.node_states.specs.declared.states.NodeState.{NodeState}
@@ -25,6 +26,11 @@ stopped node = record node { runs = false }
 
 abbrev pub started : NodeState → NodeState
 started node = record node { clock = record node.clock { kept = nothing }; boot = node.boot + 1; runs = true }
+
+-- What a clock that came with a message does to the node that takes it.
+abbrev pub heard : Option Reading → NodeState → NodeState
+heard None node = node
+heard (Some reading) node = record node { clock = record node.clock { kept = greater node.clock.kept reading } }
 
 abbrev pub moved : Move → NodeState → NodeState
 moved moves.Nothing node = node

@@ -5,6 +5,6 @@ mod moves;
 mod stage;
 mod states;
 
-pub use moves::{Move, can_not_move, move_nodes, move_of};
+pub use moves::{Move, can_not_move, hear, move_nodes, move_of};
 pub use stage::{NodePlan, RangePlan, Stage};
 pub use states::NodeState;
