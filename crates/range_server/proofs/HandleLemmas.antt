@@ -15,11 +15,13 @@ use Rattle.range_log.specs.declared.entries.Entry.{Entry}
 use Rattle.range_rules.specs.Added.{AreLicensed, added_to}
 use Rattle.range_rules.specs.Records.{IsCommitted, IsGivenUp, IsPushed}
 use Rattle.range_server.proofs.LogLemmas.{added_from}
-use Rattle.range_server.proofs.OutcomeLemmas.{licensed_map}
+use Rattle.range_server.proofs.OutcomeLemmas.{licensed_map, put_held, settles_held}
+use Rattle.range_server.specs.Applying.{applied_past}
 use Rattle.range_server.specs.Handling.{IsAnswer, IsHandled, Licenses, put_of, seen_past}
 use Rattle.range_server.specs.Puts.{IsPuts, PutGives}
 use Rattle.range_server.specs.Reads.{IsReply, ReadGives, RefreshGives, read_of, refresh_of, seen_with}
 use Rattle.range_server.specs.Records.{Changes, IsMet, SettlesBy, committed_at, given_up, may_abort_at, pushed_by_reader, pushed_by_writer}
+use Rattle.range_server.specs.Refusals.{IsByHolder}
 use Rattle.range_server.specs.Resolves.{AreResolved, IsResolveOf}
 use Rattle.range_server.specs.Scene.{IsBeside, Scene, applied_in}
 use Rattle.range_server.specs.Steps.{IsStep}
@@ -32,10 +34,11 @@ module _ (sc : Scene) (q : Request) where
   -- a step that answers is a request handled
   pub handled_by : (handled : Handled) (G : List Entry → Type 0) (L : Entry → List Entry → Type 0) (after : LogValue) (new : Standing)
       → ((added : List Entry) → G added → IsAnswer sc q handled.reply handled.by after.entries added)
+      → ((added : List Entry) → G added → IsByHolder sc added)
       → ((e : Entry) (before : List Entry) → L e before → Licenses sc q e before)
       → ((seen : CacheValue) → seen_past q handled.reply handled.by seen ≡ seen)
       → IsStep G L sc.log after sc.server new → IsHandled sc q handled after new
-  handled_by handled G L after new g l unseen h =
+  handled_by handled G L after new g by l unseen h =
       record {
         added = h.added;
         grown = h.grown;
@@ -45,6 +48,8 @@ module _ (sc : Scene) (q : Request) where
         kept = h.kept ∙ sym (ap (λ (x : CacheValue). record sc.server { replica = new.replica; cache = x }) (ap (λ (x : Standing). x.cache) h.kept));
         voters = h.voters;
         beside = h.beside;
+        applied = h.applied;
+        held = by h.added h.gives;
       }
 
   -- what only looks at the log is handled too
@@ -63,6 +68,8 @@ module _ (sc : Scene) (q : Request) where
         kept = refl;
         voters = refl;
         beside = record { follows = beside.follows; whole = beside.whole };
+        applied = refl;
+        held = tt;
       }
       in
       subst (λ (x : Standing). IsHandled sc q handled sc.log x) (sym e) at
@@ -111,38 +118,38 @@ module _ (sc : Scene) (reply : Reply) (after : LogValue) (new : Standing) where
       → IsStep (PutGives sc (put_of attempt start anchor at key value known) reply) (IsPuts sc (put_of attempt start anchor at key value known)) sc.log after sc.server new
       → IsHandled sc (requests.Put attempt range start anchor at key value known) (replied reply) after new
   put_handled attempt range start anchor at key value known =
-      handled_by sc (requests.Put attempt range start anchor at key value known) (replied reply) _ _ after new (λ added g. (g, refl)) (λ e before h. h) (λ seen. refl)
+      handled_by sc (requests.Put attempt range start anchor at key value known) (replied reply) _ _ after new (λ added g. (g, refl)) (put_held sc (put_of attempt start anchor at key value known) reply) (λ e before h. h) (λ seen. refl)
 
   pub reader_handled : (attempt : AttemptId) (range : RangeId) (other : AttemptId) (at : Ts)
       → IsStep (SettlesBy sc other (pushed_by_reader other at) reply) (Changes other (λ was state. IsPushed was at state)) sc.log after sc.server new
       → IsHandled sc (requests.PushReader attempt range other at) (replied reply) after new
   reader_handled attempt range other at =
-      handled_by sc (requests.PushReader attempt range other at) (replied reply) _ _ after new (λ added g. (g, refl)) (λ e before h. h) (λ seen. refl)
+      handled_by sc (requests.PushReader attempt range other at) (replied reply) _ _ after new (λ added g. (g, refl)) (settles_held sc other (pushed_by_reader other at) reply) (λ e before h. h) (λ seen. refl)
 
   pub writer_handled : (attempt : AttemptId) (range : RangeId) (other : AttemptId) (start other_start : Ts)
       → IsStep (SettlesBy sc other (pushed_by_writer attempt other (may_abort_at sc.now start other_start)) reply) (Changes other (IsMet sc.now attempt start other_start)) sc.log after sc.server new
       → IsHandled sc (requests.PushWriter attempt range other start other_start) (replied reply) after new
   writer_handled attempt range other start other_start =
-      handled_by sc (requests.PushWriter attempt range other start other_start) (replied reply) _ _ after new (λ added g. (g, refl)) (λ e before h. h) (λ seen. refl)
+      handled_by sc (requests.PushWriter attempt range other start other_start) (replied reply) _ _ after new (λ added g. (g, refl)) (settles_held sc other (pushed_by_writer attempt other (may_abort_at sc.now start other_start)) reply) (λ e before h. h) (λ seen. refl)
 
   pub commit_handled : (attempt : AttemptId) (range : RangeId) (at : Ts)
       → IsStep (SettlesBy sc attempt (committed_at at) reply) (Changes attempt (λ was state. IsCommitted was at state)) sc.log after sc.server new
       → IsHandled sc (requests.Commit attempt range at) (replied reply) after new
   commit_handled attempt range at =
-      handled_by sc (requests.Commit attempt range at) (replied reply) _ _ after new (λ added g. (g, refl)) (λ e before h. h) (λ seen. refl)
+      handled_by sc (requests.Commit attempt range at) (replied reply) _ _ after new (λ added g. (g, refl)) (settles_held sc attempt (committed_at at) reply) (λ e before h. h) (λ seen. refl)
 
   pub abort_handled : (attempt : AttemptId) (range : RangeId)
       → IsStep (SettlesBy sc attempt (given_up attempt) reply) (Changes attempt (λ was state. IsGivenUp attempt was state)) sc.log after sc.server new
       → IsHandled sc (requests.Abort attempt range) (replied reply) after new
   abort_handled attempt range =
-      handled_by sc (requests.Abort attempt range) (replied reply) _ _ after new (λ added g. (g, refl)) (λ e before h. h) (λ seen. refl)
+      handled_by sc (requests.Abort attempt range) (replied reply) _ _ after new (λ added g. (g, refl)) (settles_held sc attempt (given_up attempt) reply) (λ e before h. h) (λ seen. refl)
 
 module _ (sc : Scene) (after : LogValue) (new : Standing) where
   pub resolve_handled : (attempt : AttemptId) (range : RangeId) (keys : List (List ℕ)) (fate : Fate)
       → IsStep (AreResolved sc attempt keys after.entries) (IsResolveOf attempt keys fate) sc.log after sc.server new
       → IsHandled sc (requests.Resolve attempt range keys fate) (record { reply = None; by = None }) after new
   resolve_handled attempt range keys fate =
-      handled_by sc (requests.Resolve attempt range keys fate) (record { reply = None; by = None }) _ _ after new (λ added g. (g, refl)) (λ e before h. h) (λ seen. refl)
+      handled_by sc (requests.Resolve attempt range keys fate) (record { reply = None; by = None }) _ _ after new (λ added g. (g, refl)) (λ added g. g.held) (λ e before h. h) (λ seen. refl)
 
 -- what was handled, by what the log grew by
 module _ (sc : Scene) (q : Request) (handled : Handled) (after : LogValue) (new : Standing) (h : IsHandled sc q handled after new) where
@@ -157,3 +164,9 @@ module _ (sc : Scene) (q : Request) (handled : Handled) (after : LogValue) (new 
 
   pub handled_licensed : AreLicensed (Licenses sc q) (added_to sc.log.entries after.entries) sc.log.entries
   handled_licensed = subst (λ (x : List Entry). AreLicensed (Licenses sc q) x sc.log.entries) (sym told_added) h.licensed
+
+  pub handled_applied : new.replica.applied ≡ applied_past (added_to sc.log.entries after.entries) sc.server.replica.applied after.entries
+  handled_applied = subst (λ (x : List Entry). new.replica.applied ≡ applied_past x sc.server.replica.applied after.entries) (sym told_added) h.applied
+
+  pub handled_held : IsByHolder sc (added_to sc.log.entries after.entries)
+  handled_held = subst (λ (x : List Entry). IsByHolder sc x) (sym told_added) h.held

@@ -5,7 +5,7 @@ use Rattle.mr_base.specs.Nodes.{IsMember}
 use Rattle.mr_base.specs.Timestamps.{IsBelow}
 use Rattle.mr_base.specs.declared.ids.NodeId.{NodeId}
 use Rattle.mr_base.specs.declared.timestamps.Ts.{Ts}
-use Rattle.mvcc_range.specs.Follows.{Follows}
+use Rattle.mvcc_range.specs.Follows.{Follows, ReplicaValue}
 use Rattle.range_log.specs.Facts.{first_entries}
 use Rattle.range_log.specs.LogValue.{LogValue}
 use Rattle.range_log.specs.declared.entries.Entry.{Entry}
@@ -13,9 +13,9 @@ use Rattle.range_log.specs.declared.entries.Entry.TheVariants as log
 use Rattle.range_log.specs.declared.entries.Lease.{Lease}
 use Rattle.range_rules.specs.Added.{added_to}
 use Rattle.range_rules.specs.Holding.{IsHolder}
-use Rattle.range_server.proofs.LogLemmas.{added_is, added_more, applied_within, first_behind, first_next, length_first, seen_more}
+use Rattle.range_server.proofs.LogLemmas.{added_from, added_is, added_more, applied_within, first_behind, first_next, length_first, seen_more}
 use Rattle.range_server.proofs.StepLemmas.{all_first, beside_whole}
-use Rattle.range_server.specs.Applying.{is_named, seen_after}
+use Rattle.range_server.specs.Applying.{applied_past, is_named, seen_after}
 use Rattle.range_server.specs.Closing.{Closes}
 use Rattle.range_server.specs.Leases.{AppendsLease, Extends, IsHeldAs, Transfers}
 use Rattle.range_server.specs.Scene.{Holds, IsBeside, Scene, applied_by}
@@ -52,6 +52,13 @@ follows_held s entries lease beside holds = subst (λ (x : List Entry). Follows 
 -- a server that has applied all stands beside its log
 pub beside_after : (new : Standing) (entries after : List Entry) (e : Entry) → after ≡ e ∷ entries → Follows new.replica (e ∷ entries) → IsBeside new after
 beside_after new entries after e grown follows = rw grown (beside_whole new (e ∷ entries) follows)
+
+-- it has applied what was added
+pub applied_one : (entries after : List Entry) (e : Entry) (applied : ℕ) (replica : ReplicaValue) → after ≡ e ∷ entries → Follows replica (e ∷ entries)
+    → replica.applied ≡ applied_past (added_to entries after) applied after
+applied_one entries after e applied replica grown follows =
+    follows.count ∙ ap length (sym grown)
+    ∙ sym (ap (λ (x : List Entry). applied_past x applied after) (added_from (e ∷ []) entries after grown))
 
 -- so does one that has applied up to its end
 pub beside_all : (new : Standing) (entries : List Entry) (n : ℕ) → n ≡ length entries → Follows new.replica (first_entries n entries) → IsBeside new entries

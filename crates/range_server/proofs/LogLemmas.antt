@@ -8,7 +8,7 @@ use Rattle.range_log.specs.declared.entries.Entry.{Entry}
 use Rattle.range_log.specs.declared.entries.Entry.TheVariants as log
 use Rattle.range_log.specs.declared.entries.Lease.{Lease}
 use Rattle.range_rules.specs.Added.{added_to}
-use Rattle.range_server.specs.Applying.{is_named, seen_after}
+use Rattle.range_server.specs.Applying.{applied_past, is_named, seen_after}
 use Rattle.range_server.specs.Scene.{applied_by}
 use Rattle.range_server.specs.Seen.{nothing_above}
 use Rattle.range_server.specs.declared.standing.Standing.{Standing}
@@ -62,3 +62,9 @@ seen_more node boot (log.Load ts key value) added seen = refl
 
 pub added_from : (added before after : List Entry) → after ≡ added ++ before → added_to before after ≡ added
 added_from added before after e = ap (λ (x : List Entry). added_to before x) e ∙ added_is added before
+
+-- who had applied all and has applied all has applied what was added
+pub applied_all : (added before after : List Entry) (old new : ℕ) → after ≡ added ++ before → old ≡ length before → new ≡ length after
+    → new ≡ applied_past added old after
+applied_all [] before after old new grown all more = more ∙ ap length grown ∙ sym all
+applied_all (e ∷ added) before after old new grown all more = more

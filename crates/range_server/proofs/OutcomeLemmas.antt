@@ -1,5 +1,5 @@
 -- The state of each outcome is licensed.
-use Rattle.std.proofs.Common.{◌≡◌, ◌⊎◌, ◌||◌, ℕ, ◌+◌, nat_lt, Bool, true, false, List, [], ◌∷◌, ◌++◌, Option, None, Some, Result, IfOk, inl, inr, refl, sym, subst, arith}
+use Rattle.std.proofs.Common.{◌≡◌, ◌⊎◌, ◌||◌, ℕ, ◌+◌, nat_lt, Bool, true, false, List, [], ◌∷◌, ◌++◌, Option, None, Some, Result, IfOk, MatchOption, inl, inr, refl, sym, subst, arith}
 use Rattle.std.proofs.lemmas.Bool.Decides.{nat_tests}
 use Rattle.std.proofs.lemmas.Result.{IfOk-weaker}
 use Rattle.closed_ts.specs.Targets.{at_wall}
@@ -16,6 +16,8 @@ use Rattle.range_log.specs.declared.entries.TxnState.TheVariants.{Pending, Commi
 use Rattle.range_rules.specs.Added.{AreLicensed}
 use Rattle.range_rules.specs.Records.{Goes, IsAbortedBy, IsCommitted, IsGivenUp, IsLeft, IsPushed, IsUndecided, MayAbort, pending_above}
 use Rattle.range_server.proofs.OrderLemmas.{by_test, later_right, lt_true, up_to_itself, up_to_not_below}
+use Rattle.range_server.specs.Puts.{Put, PutGives}
+use Rattle.range_server.specs.Refusals.{CanAppend, IsByHolder}
 use Rattle.range_server.specs.Records.{Changes, Settles, SettlesBy, committed_at, given_up, may_abort, met_by_writer, pushed_by_reader, pushed_by_writer}
 use Rattle.range_server.specs.Scene.{Scene, applied_in, scene}
 use Rattle.range_server.specs.Steps.{IsStep, IsWriting}
@@ -113,6 +115,7 @@ step_map Gives Gives2 P Q g f before after old new h =
       voters = h.voters;
       kept = h.kept;
       beside = h.beside;
+      applied = h.applied;
     }
 
 module _ (sc : Scene) (attempt : AttemptId) (course : Option TxnState → Outcome) (Rule : Option TxnState → TxnState → Type 0)
@@ -144,3 +147,28 @@ module _ (sc : Scene) (attempt : AttemptId) (course : Option TxnState → Outcom
       (λ reply. IsStep (SettlesBy sc attempt course reply) (Changes attempt Rule) before after old new)
       (λ reply k. settled reply was of before after old new
       (subst (λ (o : Outcome). IsStep (Settles sc attempt o reply) (IsWriting sc attempt o) before after old new) e k)) h
+
+-- what a server that can append adds, it adds as holder
+pub by_holder : (sc : Scene) → CanAppend sc → (added : List Entry) → IsByHolder sc added
+by_holder sc can [] = tt
+by_holder sc can (e ∷ added) = can
+
+none_by_holder : (sc : Scene) (added : List Entry) → added ≡ [] → IsByHolder sc added
+none_by_holder sc added none = subst (λ (x : List Entry). IsByHolder sc x) (sym none) tt
+
+pub put_held : (sc : Scene) (put : Put) (reply : Reply) (added : List Entry) → PutGives sc put reply added → IsByHolder sc added
+put_held sc put reply added (inl h) = none_by_holder sc added h.nothing
+put_held sc put reply added (inr (inl h)) = none_by_holder sc added h.nothing
+put_held sc put reply added (inr (inr (inl h))) = none_by_holder sc added h.nothing
+put_held sc put reply added (inr (inr (inr h))) = by_holder sc h.can added
+
+settled_held : (sc : Scene) (attempt : AttemptId) (state : Option TxnState) (added : List Entry)
+    → MatchOption state (added ≡ []) (λ x. CanAppend sc × (added ≡ log.State attempt x ∷ [])) → IsByHolder sc added
+settled_held sc attempt None added h = none_by_holder sc added h
+settled_held sc attempt (Some x) added h = by_holder sc h.0 added
+
+pub settles_held : (sc : Scene) (attempt : AttemptId) (course : Option TxnState → Outcome) (reply : Reply) (added : List Entry)
+    → SettlesBy sc attempt course reply added → IsByHolder sc added
+settles_held sc attempt course reply added (was, of, inl h) = none_by_holder sc added h.nothing
+settles_held sc attempt course reply added (was, of, inr (inl h)) = none_by_holder sc added h.nothing
+settles_held sc attempt course reply added (was, of, inr (inr h)) = settled_held sc attempt (course was).state added h.writes

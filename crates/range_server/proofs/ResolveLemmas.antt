@@ -14,7 +14,8 @@ use Rattle.range_log.specs.declared.entries.Lease.{Lease}
 use Rattle.range_rules.specs.Added.{AreLicensed, added_to}
 use Rattle.range_rules.specs.Holding.{IsHolder, Names}
 use Rattle.range_rules.specs.Resolves.{HasIntentOf}
-use Rattle.range_server.proofs.LogLemmas.{added_is}
+use Rattle.range_server.proofs.LogLemmas.{added_is, applied_all}
+use Rattle.range_server.proofs.OutcomeLemmas.{by_holder}
 use Rattle.range_server.proofs.StepLemmas.{beside_whole, no_step}
 use Rattle.range_server.specs.Refusals.{CanAppend, IsRefusal}
 use Rattle.range_server.specs.Resolves.{AreResolved, IsResolveOf}
@@ -87,7 +88,7 @@ module _ (s : Standing) (old : LogValue) (now : Moment) (lease : Lease) (has : l
 
   -- nothing is resolved where nothing can be appended
   none_done : ¬ CanAppend (scene s old now) → Resolved old s
-  none_done cannot = no_step _ _ _ _ (record { resolved = λ can. absurd (cannot can); refused = λ _. refl }) beside
+  none_done cannot = no_step _ _ _ _ (record { resolved = λ can. absurd (cannot can); refused = λ _. refl; held = tt }) beside
 
   same_lease : (can : CanAppend (scene s old now)) → can.lease ≡ lease
   same_lease can = let e : Some can.lease ≡ Some lease = sym can.holds.has ∙ has in cc
@@ -110,9 +111,12 @@ module _ (s : Standing) (old : LogValue) (now : Moment) (lease : Lease) (has : l
         gives = record {
           resolved = λ _. subst (λ (ks : List (List ℕ)). All (λ key. ¬ HasIntentOf a key after.entries) ks) (take-length keys) h.none;
           refused = λ cannot. absurd (cannot append);
+          held = by_holder (scene s old now) append (added_to old.entries after.entries);
         };
         licensed = h.licensed;
         voters = h.voters;
         kept = h.kept;
         beside = beside_whole new after.entries h.follows;
+        applied = applied_all (added_to old.entries after.entries) old.entries after.entries s.replica.applied new.replica.applied h.grown
+            (subst (λ (x : List Entry). Follows s.replica x) (beside.whole lease append.holds) beside.follows).count h.follows.count;
       }

@@ -1,5 +1,5 @@
 -- What a server has done with its log, from what was appended.
-use Rattle.std.proofs.Common.{◌≡◌, ◌==◌, ◌-◌, ◌+◌, ◌∙◌, ℕ, suc, Bool, true, false, cond, Ok, Err, List, [], ◌∷◌, Some, length, slice_get, refl, ap, subst, arith}
+use Rattle.std.proofs.Common.{◌≡◌, ◌==◌, ◌-◌, ◌+◌, ◌∙◌, ℕ, suc, Bool, true, false, cond, Ok, Err, List, [], ◌∷◌, Some, length, slice_get, refl, sym, ap, subst, arith}
 use Rattle.mvcc_range.specs.Follows.{Follows, ReplicaValue}
 use Rattle.mr_base.specs.declared.nodes.NodeSet.{NodeSet}
 use Rattle.range_log.specs.Appends.{append_answer, has_majority, seq_of, stopped_of}
@@ -26,7 +26,7 @@ beside_whole s entries f =
 module _ (Gives : List Entry → Type 0) (IsLicensed : Entry → List Entry → Type 0) (log : LogValue) (s : Standing) where
   -- nothing was appended
   pub no_step : Gives [] → IsBeside s log.entries → IsStep Gives IsLicensed log log s s
-  no_step g b = record { added = []; grown = refl; gives = g; licensed = tt; voters = refl; kept = refl; beside = b }
+  no_step g b = record { added = []; grown = refl; gives = g; licensed = tt; voters = refl; kept = refl; beside = b; applied = refl }
 
   -- one entry was appended
   pub one_step : (e : Entry) (after : LogValue) (new : Standing) → IsAppended e log after s new → Gives (e ∷ []) → IsLicensed e log.entries
@@ -40,6 +40,7 @@ module _ (Gives : List Entry → Type 0) (IsLicensed : Entry → List Entry → 
         voters = a.voters;
         kept = a.kept;
         beside = rw a.entries (beside_whole new (e ∷ log.entries) a.follows);
+        applied = a.follows.count ∙ ap length (sym a.entries);
       }
 
   -- two entries were appended
@@ -56,6 +57,7 @@ module _ (Gives : List Entry → Type 0) (IsLicensed : Entry → List Entry → 
         voters = b.voters ∙ a.voters;
         kept = b.kept ∙ ap (λ (x : Standing). record x { replica = new.replica }) a.kept;
         beside = rw grown (beside_whole new (g ∷ e ∷ log.entries) follows);
+        applied = follows.count ∙ ap length (sym grown);
       }
 
 -- the index of an entry that was appended

@@ -1,4 +1,4 @@
-use Rattle.std.specs.Prelude.{◌&&◌, ◌==◌, ℕ, Bool, if◌then◌else◌, List, [], ◌∷◌}
+use Rattle.std.specs.Prelude.{◌&&◌, ◌==◌, ℕ, Bool, if◌then◌else◌, List, [], ◌∷◌, length}
 use Rattle.mr_base.specs.declared.ids.NodeId.{NodeId}
 use Rattle.range_log.specs.declared.entries.Entry.{Entry}
 use Rattle.range_log.specs.declared.entries.Entry.TheVariants as log
@@ -18,3 +18,8 @@ seen_after node boot [] seen = seen
 seen_after node boot (log.Lease lease ∷ older) seen =
     if is_named node boot lease then nothing_above lease.low else seen_after node boot older seen
 seen_after node boot (e ∷ older) seen = seen_after node boot older seen
+
+-- How many entries a server has applied after a call: all of them where the log grew, else as many as before.
+abbrev pub applied_past : (added : List Entry) → ℕ → (entries : List Entry) → ℕ
+applied_past [] applied entries = applied
+applied_past (e ∷ added) applied entries = length entries

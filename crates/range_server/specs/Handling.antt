@@ -10,9 +10,11 @@ use Rattle.range_log.specs.declared.entries.Entry.{Entry}
 use Rattle.range_log.specs.LogValue.{LogValue}
 use Rattle.range_rules.specs.Added.{AreLicensed}
 use Rattle.range_rules.specs.Records.{IsCommitted, IsGivenUp, IsPushed}
+use Rattle.range_server.specs.Applying.{applied_past}
 use Rattle.range_server.specs.Puts.{IsPuts, Put, PutGives}
 use Rattle.range_server.specs.Reads.{ReadGives, RefreshGives, read_of, refresh_of, seen_with}
 use Rattle.range_server.specs.Records.{Changes, IsMet, SettlesBy, committed_at, given_up, may_abort_at, pushed_by_reader, pushed_by_writer}
+use Rattle.range_server.specs.Refusals.{IsByHolder}
 use Rattle.range_server.specs.Resolves.{AreResolved, IsResolveOf}
 use Rattle.range_server.specs.Scene.{IsBeside, Scene, applied_in}
 use Rattle.range_server.specs.declared.reads.Handled.{Handled}
@@ -86,3 +88,5 @@ pub record IsHandled (sc : Scene) (q : Request) (handled : Handled) (after : Log
   pub kept : new ≡ record sc.server { replica = new.replica; cache = new.cache }
   pub voters : after.voters ≡ sc.log.voters
   pub beside : IsBeside new after.entries
+  pub applied : new.replica.applied ≡ applied_past added sc.server.replica.applied after.entries
+  pub held : IsByHolder sc added

@@ -1,4 +1,4 @@
-use Rattle.std.specs.Prelude.{◌≡◌, ◌≢◌, ◌⊎◌, true, false, List, [], Option, Some, None}
+use Rattle.std.specs.Prelude.{◌≡◌, ◌≢◌, ◌⊎◌, ⊤, true, false, List, [], ◌∷◌, Option, Some, None}
 use Rattle.mr_base.specs.declared.messages.Reply.{Reply}
 use Rattle.mr_base.specs.declared.messages.Reply.TheVariants as replies
 use Rattle.mr_base.specs.declared.nodes.NodeSet.{NodeSet}
@@ -41,6 +41,11 @@ pub record CanAppend (sc : Scene) : Type 0 where
   pub lease : Lease
   pub holds : Holds sc lease
   pub majority : has_majority sc.log.voters sc.now.running ≡ true
+
+-- Only a server that can append adds entries.
+abbrev pub IsByHolder : Scene → (added : List Entry) → Type 0
+IsByHolder sc [] = ⊤
+IsByHolder sc (e ∷ added) = CanAppend sc
 
 -- Why nothing can be appended in the name of a lease; none where something can.
 abbrev pub IsRefusal : Lease → NodeSet → LogValue → Option Reply → Type 0

@@ -4,7 +4,7 @@ use Rattle.mr_base.specs.declared.messages.Fate.{Fate}
 use Rattle.range_log.specs.declared.entries.Entry.{Entry}
 use Rattle.range_log.specs.declared.entries.Entry.TheVariants as log
 use Rattle.range_rules.specs.Resolves.{HasIntentOf}
-use Rattle.range_server.specs.Refusals.{CanAppend}
+use Rattle.range_server.specs.Refusals.{CanAppend, IsByHolder}
 use Rattle.range_server.specs.Scene.{Scene}
 
 -- How intents are resolved. (Taft et al., SIGMOD 2020, on intents.)
@@ -13,6 +13,7 @@ use Rattle.range_server.specs.Scene.{Scene}
 pub record AreResolved (sc : Scene) (attempt : AttemptId) (keys : List (List ℕ)) (entries added : List Entry) : Type 0 where
   pub resolved : CanAppend sc → All (λ key. ¬ HasIntentOf attempt key entries) keys
   pub refused : ¬ CanAppend sc → added ≡ []
+  pub held : IsByHolder sc added
 
 -- A resolve is of an intent of the attempt that stands at one of these keys, and tells the attempt's fate.
 abbrev pub IsResolveOf : AttemptId → List (List ℕ) → Fate → Entry → List Entry → Type 0

@@ -5,6 +5,7 @@ use Rattle.range_log.specs.LogValue.{LogValue}
 use Rattle.range_log.specs.declared.entries.Entry.{Entry}
 use Rattle.range_log.specs.declared.entries.Entry.TheVariants as log
 use Rattle.range_rules.specs.Added.{AreLicensed}
+use Rattle.range_server.specs.Applying.{applied_past}
 use Rattle.range_server.specs.Scene.{IsBeside, Scene, applied_in}
 use Rattle.range_server.specs.declared.records.Outcome.{Outcome}
 use Rattle.range_server.specs.declared.standing.Standing.{Standing}
@@ -27,6 +28,7 @@ pub record IsStep (Gives : List Entry → Type 0) (IsLicensed : Entry → List E
   pub voters : after.voters ≡ before.voters
   pub kept : new ≡ record old { replica = new.replica }
   pub beside : IsBeside new after.entries
+  pub applied : new.replica.applied ≡ applied_past added old.replica.applied after.entries
 
 -- an entry writes the state of an outcome as the record of an attempt, behind all that was applied
 abbrev pub IsWriting : Scene → AttemptId → Outcome → Entry → List Entry → Type 0

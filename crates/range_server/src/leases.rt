@@ -8,7 +8,7 @@ ghost use Rattle.range_log.specs.Facts.{first_entries, lease_of};
 ghost use Rattle.range_log.specs.declared.entries.Entry.{Entry};
 ghost use Rattle.range_log.specs.declared.entries.Entry.TheVariants as entry;
 ghost use Rattle.range_rules.specs.Added.{added_to};
-ghost use Rattle.range_server.specs.Applying.{seen_after};
+ghost use Rattle.range_server.specs.Applying.{applied_past, seen_after};
 ghost use Rattle.range_server.specs.Closing.{Closes};
 ghost use Rattle.range_server.specs.Leases.{Acquires, AppendsLease, Extends, HasAnswered, HasRefused, IsHeldAs, Transfers};
 ghost use Rattle.range_server.specs.Scene.{IsBeside, applied_by, scene};
@@ -51,6 +51,7 @@ impl Standing {
         ensures answer { Acquires (scene self.old log.old now) result log.new.entries }
         ensures server { IfOk result (λ lease.
             self.new ≡ record self.old { replica = self.new.replica; cache = nothing_above lease.low }) }
+        ensures applied { OnOk result (Follows self.new.replica log.new.entries) }
         ensures refused { HasRefused result → self.new ≡ self.old }
         ensures beside { HasAnswered result → IsBeside self.new log.new.entries }
         ensures voters { HasAnswered result → log.new.voters ≡ log.old.voters }
@@ -95,6 +96,7 @@ impl Standing {
           replica = self.new.replica;
           cache = seen_after self.old.node self.old.boot (entry.Lease lease ∷ []) self.old.cache;
         }) }
+        ensures applied { OnOk result (Follows self.new.replica log.new.entries) }
         ensures refused { HasRefused result → self.new ≡ self.old }
         ensures beside { HasAnswered result → IsBeside self.new log.new.entries }
         ensures voters { HasAnswered result → log.new.voters ≡ log.old.voters }
@@ -120,6 +122,7 @@ impl Standing {
         requires beside { IsBeside self.old log.old.entries }
         ensures answer { Extends (scene self.old log.old now) result log.new.entries }
         ensures server { OnOk result (self.new ≡ record self.old { replica = self.new.replica }) }
+        ensures applied { OnOk result (Follows self.new.replica log.new.entries) }
         ensures refused { HasRefused result → self.new ≡ self.old }
         ensures beside { HasAnswered result → IsBeside self.new log.new.entries }
         ensures voters { HasAnswered result → log.new.voters ≡ log.old.voters }
@@ -143,6 +146,8 @@ impl Standing {
         requires beside { IsBeside self.old log.old.entries }
         ensures answer { Closes (scene self.old log.old now) result log.new.entries }
         ensures server { OnOk result (self.new ≡ record self.old { replica = self.new.replica }) }
+        ensures applied { OnOk result (self.new.replica.applied ≡ applied_past
+            (added_to log.old.entries log.new.entries) self.old.replica.applied log.new.entries) }
         ensures refused { HasRefused result → self.new ≡ self.old }
         ensures beside { HasAnswered result → IsBeside self.new log.new.entries }
         ensures voters { HasAnswered result → log.new.voters ≡ log.old.voters }

@@ -6,10 +6,11 @@ ghost use Rattle.mvcc_range.specs.Follows.{Follows};
 ghost use Rattle.range_log.specs.Facts.{first_entries, lease_of};
 ghost use Rattle.range_log.specs.declared.entries.Entry.TheVariants as entry;
 ghost use Rattle.range_rules.specs.Added.{AreLicensed, added_to};
-ghost use Rattle.range_server.specs.Applying.{seen_after};
+ghost use Rattle.range_server.specs.Applying.{applied_past, seen_after};
 ghost use Rattle.range_server.specs.Closing.{Closes};
 ghost use Rattle.range_server.specs.Handling.{IsAnswer, Licenses, seen_past};
 ghost use Rattle.range_server.specs.Leases.{Acquires, Extends, HasAnswered, HasRefused, Transfers};
+ghost use Rattle.range_server.specs.Refusals.{IsByHolder};
 ghost use Rattle.range_server.specs.Scene.{IsBeside, applied_by, moment, scene};
 ghost use Rattle.range_server.specs.Seen.{nothing_above};
 
@@ -81,6 +82,10 @@ impl Server {
             handled.reply handled.by log.new.entries (added_to log.old.entries log.new.entries)) }
         ensures licensed { OnOk result (AreLicensed (Licenses (scene self.old log.old (moment clock s.now running)) q.now)
             (added_to log.old.entries log.new.entries) log.old.entries) }
+        ensures held { OnOk result (IsByHolder (scene self.old log.old (moment clock s.now running))
+            (added_to log.old.entries log.new.entries)) }
+        ensures applied { OnOk result (self.new.replica.applied ≡ applied_past
+            (added_to log.old.entries log.new.entries) self.old.replica.applied log.new.entries) }
         ensures seen { IfOk result (λ handled.
             self.new.cache ≡ seen_past q.now handled.reply handled.by self.old.cache) }
         ensures server { OnOk result (self.new
@@ -125,6 +130,7 @@ impl Server {
         ensures answer { Acquires (scene self.old log.old (moment clock s.now running)) result log.new.entries }
         ensures server { IfOk result (λ lease.
             self.new ≡ record self.old { replica = self.new.replica; cache = nothing_above lease.low }) }
+        ensures applied { OnOk result (Follows self.new.replica log.new.entries) }
         ensures refused { HasRefused result → self.new ≡ self.old }
         ensures beside { HasAnswered result → IsBeside self.new log.new.entries }
         ensures voters { HasAnswered result → log.new.voters ≡ log.old.voters }
@@ -154,6 +160,7 @@ impl Server {
           replica = self.new.replica;
           cache = seen_after self.old.node self.old.boot (entry.Lease lease ∷ []) self.old.cache;
         }) }
+        ensures applied { OnOk result (Follows self.new.replica log.new.entries) }
         ensures refused { HasRefused result → self.new ≡ self.old }
         ensures beside { HasAnswered result → IsBeside self.new log.new.entries }
         ensures voters { HasAnswered result → log.new.voters ≡ log.old.voters }
@@ -177,6 +184,7 @@ impl Server {
         requires { IsBeside self.old log.old.entries }
         ensures answer { Extends (scene self.old log.old (moment clock s.now running)) result log.new.entries }
         ensures server { OnOk result (self.new ≡ record self.old { replica = self.new.replica }) }
+        ensures applied { OnOk result (Follows self.new.replica log.new.entries) }
         ensures refused { HasRefused result → self.new ≡ self.old }
         ensures beside { HasAnswered result → IsBeside self.new log.new.entries }
         ensures voters { HasAnswered result → log.new.voters ≡ log.old.voters }
@@ -200,6 +208,8 @@ impl Server {
         requires { IsBeside self.old log.old.entries }
         ensures answer { Closes (scene self.old log.old (moment clock s.now running)) result log.new.entries }
         ensures server { OnOk result (self.new ≡ record self.old { replica = self.new.replica }) }
+        ensures applied { OnOk result (self.new.replica.applied ≡ applied_past
+            (added_to log.old.entries log.new.entries) self.old.replica.applied log.new.entries) }
         ensures refused { HasRefused result → self.new ≡ self.old }
         ensures beside { HasAnswered result → IsBeside self.new log.new.entries }
         ensures voters { HasAnswered result → log.new.voters ≡ log.old.voters }
@@ -210,6 +220,20 @@ impl Server {
             running,
         };
         self.standing.close(now, log)
+    }
+
+    /// The server's node.
+    pub fn node(&self) -> NodeId
+        ensures { result ≡ self.now.node }
+    {
+        self.standing.node
+    }
+
+    /// The boot of its node.
+    pub fn boot(&self) -> u32
+        ensures { result ≡ self.now.boot }
+    {
+        self.standing.boot
     }
 
     /// What the server has applied.

@@ -36,7 +36,7 @@ impl Model for Ledger {
     } };
 
     ghost invariant = { λ l.
-      IsKept (history_of l.behind (reverse l.entries.items) (reverse l.marks.items) (reverse l.events.items))
+        IsKept (history_of l.behind (reverse l.entries.items) (reverse l.marks.items) (reverse l.events.items))
         l.behind l.entries.items l.events.items l.has_entry l.has_ticked };
 }
 

@@ -1,13 +1,9 @@
-// A library with one function.
+//! The nodes of a simulated cluster: their clocks, the ranges with their replicas, the messages in flight, and the
+//! journal of what they do.
 #![tactic(auto)]
 
-ghost use Rattle.std.specs.Prelude.{◌≡◌};
-ghost use Rattle.sim_nodes.specs.Echo.{echo_of};
+mod attempts;
+mod endings;
+mod lines;
+mod state;
 
-// The `ensures` clause is the contract: what `echo` returns is `echo_of` of its argument, a definition
-// in `specs/Echo.antt`, which a caller's clause can cite too.
-pub fn echo(x: usize) -> usize
-    ensures { result ≡ echo_of x }
-{
-    x
-}

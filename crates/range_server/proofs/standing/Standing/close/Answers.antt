@@ -1,6 +1,9 @@
 use Rattle.std.proofs.lemmas.Result.{err_from_is_err_and}
-use Rattle.std.proofs.Common.{refl}
-use Rattle.range_server.proofs.LeaseLemmas.{beside_after, follows_held, held_closes, is_above, is_not_above}
+use Rattle.std.proofs.Common.{List, [], refl, sym, ap}
+use Rattle.range_server.proofs.LeaseLemmas.{applied_one, beside_after, follows_held, held_closes, is_above, is_not_above}
+use Rattle.range_log.specs.declared.entries.Entry.{Entry}
+use Rattle.range_server.proofs.LogLemmas.{added_is}
+use Rattle.range_server.specs.Applying.{applied_past}
 use Rattle.range_server.specs.Scene.{scene}
 use Rattle.range_server.proofs.standing.Standing.close.Goals as goal
 
@@ -45,3 +48,12 @@ returns-clause-answer c =
 pub returns-clause-beside : goal.returns-clause-beside
 returns-clause-beside c = λ _.
     beside_after _ c.args.log.now.entries c.append.new.log.entries _ c.in_ok-append.ensures.entries c.in_ok-append.ensures.follows
+
+pub returns-then-not-is_below-clause-applied : goal.returns-then-not-is_below-clause-applied
+returns-then-not-is_below-clause-applied c =
+    sym (ap (λ (x : List Entry). applied_past x c.args.self.now.replica.applied c.args.log.now.entries) (added_is [] c.args.log.now.entries))
+
+pub returns-clause-applied : goal.returns-clause-applied
+returns-clause-applied c =
+    applied_one c.args.log.now.entries c.append.new.log.entries _ c.args.self.now.replica.applied c.append.new.self.replica c.in_ok-append.ensures.entries
+    c.in_ok-append.ensures.follows

@@ -42,3 +42,9 @@ returns-clause-beside c = λ _.
     beside_after _ c.args.log.now.entries c.append_lease.new.log.entries _ c.in_ok-append_lease.ensures.1
     (c.in_ok-apply.ensures.ok c.args.log.now.entries
     (follows_held c.args.self.now c.args.log.now.entries c.in_ok-last.last c.requires.beside (c.in_ok-last.ensures c.args.now)))
+
+pub returns-clause-applied : goal.returns-clause-applied
+returns-clause-applied c =
+    rw c.in_ok-append_lease.ensures.1
+    (c.in_ok-apply.ensures.ok c.args.log.now.entries
+    (follows_held c.args.self.now c.args.log.now.entries c.in_ok-last.last c.requires.beside (c.in_ok-last.ensures c.args.now)))

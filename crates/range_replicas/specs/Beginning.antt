@@ -1,0 +1,25 @@
+use Rattle.std.specs.Prelude.{◌≡◌, ◌++◌, ℕ, List, [], ◌∷◌, Some, All, map, slice_get}
+use Rattle.mr_base.specs.declared.ids.NodeId.{NodeId}
+use Rattle.mr_base.specs.declared.timestamps.Ts.{Ts}
+use Rattle.range_log.specs.declared.entries.Entry.{Entry}
+use Rattle.range_log.specs.declared.entries.Entry.TheVariants as log
+use Rattle.range_log.specs.declared.entries.Lease.{Lease}
+use Rattle.range_rules.specs.Leases.{IsFirst}
+use Rattle.range_server.specs.Applying.{seen_after}
+use Rattle.range_server.specs.Seen.{nothing_above}
+use Rattle.range_server.specs.declared.standing.Standing.{Standing}
+
+-- How a range begins. (This project's profile.)
+
+-- Its log begins with the lease of the first voter, at that node's boot.
+pub record BeginsWith (voters : List NodeId) (boots : List ℕ) (wall duration : ℕ) (low : Ts) (entries : List Entry) : Type 0 where
+  pub lease : Lease
+  pub holder : slice_get voters 0 ≡ Some lease.holder
+  pub boot : slice_get boots 0 ≡ Some lease.boot
+  pub first : IsFirst lease lease.holder lease.boot wall duration low
+  pub alone : entries ≡ log.Lease lease ∷ []
+
+-- A server has applied the first lease, and has served nothing.
+pub record HasBegun (entries : List Entry) (s : Standing) : Type 0 where
+  pub applied : s.replica.applied ≡ 1
+  pub unread : s.cache ≡ seen_after s.node s.boot entries (nothing_above Ts.ZERO)

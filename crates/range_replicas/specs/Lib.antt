@@ -1,0 +1,4 @@
+pub mod Beginning
+pub mod RangeValue
+pub mod Sound
+pub mod Voters

@@ -1,0 +1,2 @@
+//! How the ranges with their replicas stand to what has happened, as definitions and what follows from them.
+#![tactic(auto)]

@@ -1,0 +1,3 @@
+pub mod Hints
+pub mod Progress
+pub mod Routes

@@ -1,0 +1,1 @@
+//! Transactions are answered, refused or lost.

@@ -1,0 +1,21 @@
+//! What is kept of all nodes.
+
+ghost use Rattle.std.specs.Prelude.{◌≡◌, ◌∷◌};
+
+use msg_flight::Flight;
+use mr_base::NodeSet;
+use node_states::{NodeState, Stage};
+use run_ledger::Ledger;
+
+/// The nodes, those of them that run, the messages in flight, how many attempts were begun and messages sent, and what
+/// was done, on this stage.
+#[derive(Drop)]
+pub struct State {
+    pub stage: Stage,
+    pub nodes: Vec<NodeState>,
+    pub running: NodeSet,
+    pub flight: Flight,
+    pub attempts: u32,
+    pub sent: u64,
+    pub ledger: Ledger,
+}
