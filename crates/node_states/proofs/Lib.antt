@@ -1,3 +1,4 @@
+pub mod AppendLemmas
 pub mod FrontLemmas
 pub mod LineLemmas
 pub mod MailLemmas
