@@ -3,7 +3,10 @@
 #![tactic(auto)]
 
 mod attempts;
+mod ended_txns;
 mod endings;
 mod lines;
+mod nodes;
 mod state;
 
+pub use nodes::Nodes;

@@ -2,8 +2,8 @@
 
 ghost use Rattle.std.specs.Prelude.{◌≡◌, ◌∷◌};
 
-use msg_flight::Flight;
 use mr_base::NodeSet;
+use msg_flight::Flight;
 use node_states::{NodeState, Stage};
 use run_ledger::Ledger;
 

@@ -1,0 +1,37 @@
+use Rattle.std.proofs.Common.{◌≡◌, List, [], ◌∷◌, refl, sym, ap, ◌∙◌, subst}
+use Rattle.journal.specs.declared.entries.JournalEntry.{JournalEntry}
+use Rattle.run_ledger.specs.LedgerValue.{LedgerValue}
+use Rattle.run_words.specs.History.{History, Made}
+use Rattle.sim_nodes.specs.Tied.{HasMade, IsTied, IsTiedTo, past}
+use Rattle.sim_nodes.specs.declared.state.State.{State}
+
+-- an entry was written into reserved room
+pub written : (old mid new : LedgerValue) (e : JournalEntry) (room : _) → mid ≡ record old { room = mid.room }
+    → new ≡ record mid { history = Made e ∷ mid.history; room = room } → new.history ≡ Made e ∷ old.history
+written old mid new e room r w = ap (λ (l : LedgerValue). l.history) w ∙ ap (λ (l : LedgerValue). Made e ∷ l.history) r
+
+abbrev with_ledger : State → LedgerValue → State
+with_ledger s l = record s { ledger = l }
+
+tied_with : (t : State) (l : LedgerValue) (h : History) → IsTiedTo h t → IsTiedTo h (with_ledger t l)
+tied_with t l h i =
+    record {
+      staged = i.staged;
+      laws = i.laws;
+      count = i.count;
+      nodes_are = i.nodes_are;
+      mails_are = i.mails_are;
+      begun_are = i.begun_are;
+      sent_are = i.sent_are;
+    }
+
+-- what was changed beside the ledger is tied with the entry that was made
+pub made_entry : (s t : State) → t.stage ≡ s.stage → (mid new : LedgerValue) (e : JournalEntry) (room : _) → mid ≡ record s.ledger { room = mid.room }
+    → new ≡ record mid { history = Made e ∷ mid.history; room = room } → IsTiedTo (Made e ∷ past s) t
+    → HasMade (Made e ∷ []) s (record t { ledger = new })
+made_entry s t same mid new e room r w tied =
+    record {
+      stage = same;
+      history = written s.ledger mid new e room r w;
+      tied = subst (λ (h : History). IsTiedTo h (with_ledger t new)) (sym (written s.ledger mid new e room r w)) (tied_with t new (Made e ∷ past s) tied);
+    }
