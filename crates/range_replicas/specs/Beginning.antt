@@ -1,4 +1,5 @@
 use Rattle.std.specs.Prelude.{◌≡◌, ◌++◌, ℕ, List, [], ◌∷◌, Some, All, map, slice_get}
+use Rattle.closed_ts.specs.Targets.{at_wall}
 use Rattle.mr_base.specs.declared.ids.NodeId.{NodeId}
 use Rattle.mr_base.specs.declared.timestamps.Ts.{Ts}
 use Rattle.range_log.specs.declared.entries.Entry.{Entry}
@@ -22,4 +23,4 @@ pub record BeginsWith (voters : List NodeId) (boots : List ℕ) (wall duration :
 -- A server has applied the first lease, and has served nothing.
 pub record HasBegun (entries : List Entry) (s : Standing) : Type 0 where
   pub applied : s.replica.applied ≡ 1
-  pub unread : s.cache ≡ seen_after s.node s.boot entries (nothing_above Ts.ZERO)
+  pub unread : s.cache ≡ seen_after s.node s.boot entries (nothing_above (at_wall 0))

@@ -111,7 +111,7 @@ impl ReplicatedRange {
         ensures changed { OnOk result (IsChangedAt place self.old self.new) }
         ensures sound { OnOk result (IsSound self.new) }
     {
-        Err(Memory)
+        self.servers[place].handle(alloc, q, clock, s, &mut self.log, running)
     }
 
     /// The replica at a place applies the log's entries up to so many.
@@ -131,7 +131,7 @@ impl ReplicatedRange {
         ensures changed { OnOk result (IsChangedAt place self.old self.new) }
         ensures sound { OnOk result (IsSound self.new) }
     {
-        Err(Memory)
+        self.servers[place].apply_to(&self.log, upto)
     }
 
     /// The node at a place takes the log's last lease where that is expired, as a voter, and applies the log.
@@ -154,7 +154,7 @@ impl ReplicatedRange {
         ensures changed { HasAnswered result → IsChangedAt place self.old self.new }
         ensures sound { HasAnswered result → IsSound self.new }
     {
-        Err(LeaseRefusal::Memory)
+        self.servers[place].acquire(clock, s, &mut self.log, running)
     }
 
     /// The server at a place hands the lease that it holds on to a voter at its boot.
@@ -183,7 +183,7 @@ impl ReplicatedRange {
         ensures changed { HasAnswered result → IsChangedAt place self.old self.new }
         ensures sound { HasAnswered result → IsSound self.new }
     {
-        Err(LeaseRefusal::Memory)
+        self.servers[place].transfer(to, boot, clock, s, &mut self.log, running)
     }
 
     /// The server at a place extends the lease that it holds, and keeps what was read under it.
@@ -204,7 +204,7 @@ impl ReplicatedRange {
         ensures changed { HasAnswered result → IsChangedAt place self.old self.new }
         ensures sound { HasAnswered result → IsSound self.new }
     {
-        Err(LeaseRefusal::Memory)
+        self.servers[place].extend(clock, s, &mut self.log, running)
     }
 
     /// The server at a place closes a timestamp of the range that it holds, and gives it; none where that was
@@ -227,7 +227,7 @@ impl ReplicatedRange {
         ensures changed { HasAnswered result → IsChangedAt place self.old self.new }
         ensures sound { HasAnswered result → IsSound self.new }
     {
-        Err(LeaseRefusal::Memory)
+        self.servers[place].close(clock, s, &mut self.log, running)
     }
 
     /// The node at a place starts again, at a later boot, and knows nothing of what was read.
