@@ -2,4 +2,5 @@ pub mod AppendLemmas
 pub mod FrontLemmas
 pub mod LineLemmas
 pub mod MailLemmas
-pub mod OneNodeLemmas
+pub mod NodeLemmas
+pub mod RunningLemmas

@@ -1,5 +1,5 @@
 use Rattle.std.specs.Prelude.{Bool, None, Option, Some, false, if◌then◌else◌, nat_le, true, ℕ, ◌+◌, ◌==◌, ◌^◌}
-use Rattle.hlc.specs.Readings.{greater, nothing}
+use Rattle.hlc.specs.Readings.{nothing}
 use Rattle.journal.specs.declared.events.Event.TheVariants as events
 use Rattle.journal.specs.declared.events.Event.{Event}
 use Rattle.mr_base.specs.declared.ids.NodeId.{NodeId}
@@ -7,6 +7,7 @@ use Rattle.mr_base.specs.declared.timestamps.Reading.{Reading}
 use Rattle.node_states.specs.declared.moves.Move.TheVariants as moves
 use Rattle.node_states.specs.declared.moves.Move.{Move}
 use Rattle.node_states.specs.declared.states.NodeState.{NodeState}
+use Rattle.run_words.specs.Clocks.{seen_with}
 
 -- What lines do to nodes: ticks move physical clocks, a node that starts is at its next boot, and its clock keeps
 -- nothing. (This project's profile.)
@@ -27,10 +28,9 @@ stopped node = record node { runs = false }
 abbrev pub started : NodeState → NodeState
 started node = record node { clock = record node.clock { kept = nothing }; boot = node.boot + 1; runs = true }
 
--- What a clock that came with a message does to the node that takes it.
+-- The node that takes a message takes in the clock that came with it.
 abbrev pub heard : Option Reading → NodeState → NodeState
-heard None node = node
-heard (Some reading) node = record node { clock = record node.clock { kept = greater node.clock.kept reading } }
+heard clock node = record node { clock = record node.clock { kept = seen_with clock node.clock.kept } }
 
 abbrev pub moved : Move → NodeState → NodeState
 moved moves.Nothing node = node

@@ -2,9 +2,11 @@
 #![tactic(auto)]
 
 mod moves;
+mod running;
 mod stage;
 mod states;
 
 pub use moves::{Move, can_not_move, hear, move_nodes, move_of};
+pub use running::running_nodes;
 pub use stage::{NodePlan, RangePlan, Stage};
 pub use states::NodeState;
