@@ -1,11 +1,13 @@
 //! What a cluster begins with, what is kept of each of its nodes, and how both stand to what has happened.
 #![tactic(auto)]
 
+mod bodies;
 mod moves;
 mod running;
 mod stage;
 mod states;
 
+pub use bodies::{range_asked, sent_entry};
 pub use moves::{Move, can_not_move, hear, move_nodes, move_of};
 pub use running::running_nodes;
 pub use stage::{NodePlan, RangePlan, Stage};
