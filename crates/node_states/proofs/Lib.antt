@@ -1,4 +1,6 @@
+pub mod AppendLemmas
 pub mod FrontLemmas
 pub mod LineLemmas
+pub mod MailLemmas
 pub mod NodeLemmas
 pub mod RunningLemmas

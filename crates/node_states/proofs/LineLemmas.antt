@@ -73,22 +73,22 @@ moved_node setup h line (events.Tick None ms) node e t =
     record { physical = ap (λ x. x + ms) t.physical; kept = t.kept; boot_is = t.boot_is; runs_is = t.runs_is }
 moved_node setup h line (events.Tick (Some n) ms) node e t =
     let m : Tied (if n.0 == node.id.0 then phys setup h node.id + ms else phys setup h node.id) (seen setup h node.id) (boot setup h node.id) (is_running setup h node.id)
-        (if n.0 == node.id.0 then ticked ms node else node) =
+    (if n.0 == node.id.0 then ticked ms node else node) =
     tick_keeps (n.0 == node.id.0) ms (phys setup h node.id) (seen setup h node.id) (boot setup h node.id) (is_running setup h node.id) node (words setup h node t) in
     at_id (n.0 == node.id.0) (ticked ms) node refl (phys setup (Ran line (events.Tick (Some n) ms) ∷ h)) (seen setup h) (boot setup h) (is_running setup h) m
 moved_node setup h line (events.Stop n) node e t =
     let m : Tied (phys setup h node.id) (seen setup h node.id) (boot setup h node.id) (if n.0 == node.id.0 then false else is_running setup h node.id)
-        (if n.0 == node.id.0 then stopped node else node) =
+    (if n.0 == node.id.0 then stopped node else node) =
     stop_keeps (n.0 == node.id.0) (phys setup h node.id) (seen setup h node.id) (boot setup h node.id) (is_running setup h node.id) node (words setup h node t) in
     at_id (n.0 == node.id.0) stopped node refl (phys setup h) (seen setup h) (boot setup h) (is_running setup (Ran line (events.Stop n) ∷ h)) m
 moved_node setup h line (events.Start n) node e t =
     let m : Tied (phys setup h node.id) (if n.0 == node.id.0 then nothing else seen setup h node.id) (if n.0 == node.id.0 then boot setup h node.id + 1 else boot setup h node.id)
-        (if n.0 == node.id.0 then true else is_running setup h node.id) (if n.0 == node.id.0 then started node else node) =
+    (if n.0 == node.id.0 then true else is_running setup h node.id) (if n.0 == node.id.0 then started node else node) =
     start_keeps (n.0 == node.id.0) (phys setup h node.id) (seen setup h node.id) (boot setup h node.id) (is_running setup h node.id) node (words setup h node t) in
     let r : Tied (phys setup h node.id) (if n.0 == node.id.0 then seen_at_start (schema setup h) else seen setup h node.id) (if n.0 == node.id.0 then boot setup h node.id + 1 else boot setup h node.id)
-        (if n.0 == node.id.0 then true else is_running setup h node.id) (if n.0 == node.id.0 then started node else node) =
+    (if n.0 == node.id.0 then true else is_running setup h node.id) (if n.0 == node.id.0 then started node else node) =
     subst (λ (o : Option Ts). Tied (phys setup h node.id) (if n.0 == node.id.0 then seen_at_start o else seen setup h node.id) (if n.0 == node.id.0 then boot setup h node.id + 1 else boot setup h node.id)
-        (if n.0 == node.id.0 then true else is_running setup h node.id) (if n.0 == node.id.0 then started node else node)) (sym e) m in
+    (if n.0 == node.id.0 then true else is_running setup h node.id) (if n.0 == node.id.0 then started node else node)) (sym e) m in
     at_id (n.0 == node.id.0) started node refl (phys setup h) (seen setup (Ran line (events.Start n) ∷ h)) (boot setup (Ran line (events.Start n) ∷ h)) (is_running setup (Ran line (events.Start n) ∷ h)) r
 moved_node setup h line event node e t = t
 

@@ -1,3 +1,4 @@
+pub mod Appends
 pub mod Moves
 pub mod Placed
 pub mod Stage

@@ -1,11 +1,13 @@
-use Rattle.std.specs.Prelude.{Bool, None, Some, false, if◌then◌else◌, nat_le, true, ℕ, ◌+◌, ◌==◌, ◌^◌}
+use Rattle.std.specs.Prelude.{Bool, None, Option, Some, false, if◌then◌else◌, nat_le, true, ℕ, ◌+◌, ◌==◌, ◌^◌}
 use Rattle.hlc.specs.Readings.{nothing}
 use Rattle.journal.specs.declared.events.Event.TheVariants as events
 use Rattle.journal.specs.declared.events.Event.{Event}
 use Rattle.mr_base.specs.declared.ids.NodeId.{NodeId}
+use Rattle.mr_base.specs.declared.timestamps.Reading.{Reading}
 use Rattle.node_states.specs.declared.moves.Move.TheVariants as moves
 use Rattle.node_states.specs.declared.moves.Move.{Move}
 use Rattle.node_states.specs.declared.states.NodeState.{NodeState}
+use Rattle.run_words.specs.Clocks.{seen_with}
 
 -- What lines do to nodes: ticks move physical clocks, a node that starts is at its next boot, and its clock keeps
 -- nothing. (This project's profile.)
@@ -25,6 +27,10 @@ stopped node = record node { runs = false }
 
 abbrev pub started : NodeState → NodeState
 started node = record node { clock = record node.clock { kept = nothing }; boot = node.boot + 1; runs = true }
+
+-- The node that takes a message takes in the clock that came with it.
+abbrev pub heard : Option Reading → NodeState → NodeState
+heard clock node = record node { clock = record node.clock { kept = seen_with clock node.clock.kept } }
 
 abbrev pub moved : Move → NodeState → NodeState
 moved moves.Nothing node = node

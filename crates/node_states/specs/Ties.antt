@@ -1,5 +1,5 @@
 use Rattle.std.specs.List.{All}
-use Rattle.std.specs.Prelude.{Bool, List, None, Option, Some, length, map, true, ℕ, ⊤, ◌↔◌, ◌≡◌, ◌≤◌}
+use Rattle.std.specs.Prelude.{Bool, List, None, Option, Some, [], length, map, true, ℕ, ⊤, ◌↔◌, ◌≡◌, ◌≢◌, ◌≤◌}
 use Rattle.journal.specs.declared.entries.Shown.TheVariants as shown
 use Rattle.journal.specs.declared.entries.Shown.{Shown}
 use Rattle.mr_base.specs.Nodes.{IsMember}
@@ -12,12 +12,17 @@ use Rattle.mr_base.specs.declared.messages.Reply.TheVariants as replies
 use Rattle.mr_base.specs.declared.messages.Reply.{Reply}
 use Rattle.mr_base.specs.declared.nodes.NodeSet.{NodeSet}
 use Rattle.mr_base.specs.declared.timestamps.Reading.{Reading}
-use Rattle.node_states.specs.Stage.{AreNumbered}
+use Rattle.mr_base.specs.declared.ids.RangeId.{RangeId}
+use Rattle.range_log.specs.declared.entries.Entry.{Entry}
+use Rattle.node_states.specs.Stage.{AreNumbered, IsOfNode}
 use Rattle.node_states.specs.declared.states.NodeState.{NodeState}
 use Rattle.run_words.specs.Clocks.{phys, seen}
 use Rattle.run_words.specs.History.{History}
+use Rattle.run_words.specs.Askers.{range_asked}
+use Rattle.run_words.specs.Logs.{log_of}
 use Rattle.run_words.specs.Messages.{Mail, flight, mail}
 use Rattle.run_words.specs.Nodes.{boot, is_running}
+use Rattle.run_words.specs.Ranges.{HoldsReplica}
 use Rattle.run_words.specs.Setup.{Setup}
 
 -- How what is kept of nodes and messages stands to what happened. Each tie takes the words that it speaks of as
@@ -65,5 +70,20 @@ pub record AreMailsTied (mail : MsgId → Option Mail) (flight : List MsgId) (se
 abbrev pub NodesTied : Setup → History → List NodeState → NodeSet → Type 0
 NodesTied setup h nodes running = AreNodesTied (phys setup h) (seen setup h) (boot setup h) (is_running setup h) nodes running
 
-abbrev pub MailsTied : History → ℕ → List Message → Type 0
-MailsTied h sent messages = AreMailsTied (mail h) (flight h) sent messages
+-- A request in flight asks a range that has begun, of a node that holds a replica.
+abbrev pub IsAskPlaced : Setup → (RangeId → List Entry) → NodeId → Body → Type 0
+IsAskPlaced setup logs to (bodies.Request q) = HoldsReplica setup [] to (range_asked q) × (logs (range_asked q) ≢ [])
+IsAskPlaced setup logs to (bodies.Reply reply) = ⊤
+
+-- A message goes between nodes that are there.
+pub record IsMessagePlaced (setup : Setup) (logs : RangeId → List Entry) (count : ℕ) (m : Message) : Type 0 where
+  pub sender : IsOfNode count m.from
+  pub receiver : IsOfNode count m.to
+  pub asks : IsAskPlaced setup logs m.to m.body
+
+pub record AreMailsPlaced (setup : Setup) (mail : MsgId → Option Mail) (flight : List MsgId) (logs : RangeId → List Entry) (count sent : ℕ) (messages : List Message) : Type 0 where
+  pub tied : AreMailsTied mail flight sent messages
+  pub placed : All (IsMessagePlaced setup logs count) messages
+
+abbrev pub MailsTied : Setup → History → ℕ → ℕ → List Message → Type 0
+MailsTied setup h count sent messages = AreMailsPlaced setup (mail h) (flight h) (log_of setup h) count sent messages

@@ -1,12 +1,14 @@
 //! What a cluster begins with, what is kept of each of its nodes, and how both stand to what has happened.
 #![tactic(auto)]
 
+mod bodies;
 mod moves;
 mod running;
 mod stage;
 mod states;
 
-pub use moves::{Move, can_not_move, move_of};
+pub use bodies::{range_asked, sent_entry};
+pub use moves::{Move, can_not_move, hear, move_of};
 pub use running::move_all;
 pub use stage::{NodePlan, RangePlan, Stage};
 pub use states::NodeState;

@@ -2,11 +2,11 @@
 
 ghost use Rattle.std.specs.Prelude.{◌≡◌, false, map};
 ghost use Rattle.std.specs.List.{list_any};
-ghost use Rattle.node_states.specs.Moves.{can_not_move, move_of, moved};
+ghost use Rattle.node_states.specs.Moves.{can_not_move, heard, move_of, moved};
 
 use crate::states::NodeState;
 use journal::Event;
-use mr_base::NodeId;
+use mr_base::{NodeId, Reading};
 
 /// Physical clocks stay below 2^53 milliseconds.
 const CLOCK_LIMIT: u64 = 1 << 53;
@@ -109,5 +109,14 @@ fn start_one(node: &mut NodeState, n: NodeId)
         node.boot += 1;
         node.runs = true;
         node.clock.restart();
+    }
+}
+
+/// A node takes a message in: its clock hears the one that came with it.
+pub fn hear(node: &mut NodeState, clock: Option<Reading>)
+    ensures { node.new ≡ heard clock node.old }
+{
+    if let Some(reading) = clock {
+        node.clock.observe(reading);
     }
 }
