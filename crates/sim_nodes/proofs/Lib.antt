@@ -1,3 +1,4 @@
 pub mod EndingLemmas
+pub mod FlightLemmas
 pub mod QuietLemmas
 pub mod Written
