@@ -104,7 +104,7 @@ moved_id (moves.Tick n ms) node = either_id (n.0 == node.id.0) (ticked ms node) 
 moved_id (moves.Stop n) node = either_id (n.0 == node.id.0) (stopped node) node refl
 moved_id (moves.Start n) node = either_id (n.0 == node.id.0) (started node) node refl
 
-moved_numbers : (m : Move) (k : ℕ) (nodes : List NodeState) → AreNumbered k (map (λ node. node.id.0) nodes) → AreNumbered k (map (λ node. node.id.0) (map (moved m) nodes))
+pub moved_numbers : (m : Move) (k : ℕ) (nodes : List NodeState) → AreNumbered k (map (λ node. node.id.0) nodes) → AreNumbered k (map (λ node. node.id.0) (map (moved m) nodes))
 moved_numbers m k [] a = tt
 moved_numbers m k (node ∷ nodes) a = (ap (λ (n : NodeId). n.0) (moved_id m node) ∙ a.0, moved_numbers m (k + 1) nodes a.1)
 
@@ -118,5 +118,20 @@ line_keeps stage h line event nodes old running laws t among =
           (moved (move_of event)) nodes
           (λ k d l. moved_node (setup_of stage) h line event (slice_index_or nodes k d) (no_schema stage h laws) (t.each k d l));
       numbered = moved_numbers (move_of event) 0 nodes t.numbered;
+      running_are = among;
+    }
+
+ticked_node : (setup : Setup) (h : History) (ms : ℕ) (node : NodeState) → IsNodeTied (phys setup h) (seen setup h) (boot setup h) (is_running setup h) node
+    → IsNodeTied (phys setup (Ticked ms ∷ h)) (seen setup (Ticked ms ∷ h)) (boot setup (Ticked ms ∷ h)) (is_running setup (Ticked ms ∷ h)) (ticked ms node)
+ticked_node setup h ms node t = record { physical = ap (λ x. x + ms) t.physical; kept = t.kept; boot_is = t.boot_is; runs_is = t.runs_is }
+
+-- so does the tick inside a `settle` line
+pub ticked_keeps : (stage : Stage) (h : History) (ms : ℕ) (nodes : List NodeState) (old running : NodeSet) → NodesTied (setup_of stage) h nodes old
+    → All (IsAmong running) (map (moved (moves.TickAll ms)) nodes) → NodesTied (setup_of stage) (Ticked ms ∷ h) (map (moved (moves.TickAll ms)) nodes) running
+ticked_keeps stage h ms nodes old running t among =
+    record {
+      each = All-map (IsNodeTied (phys (setup_of stage) (Ticked ms ∷ h)) (seen (setup_of stage) (Ticked ms ∷ h)) (boot (setup_of stage) (Ticked ms ∷ h)) (is_running (setup_of stage) (Ticked ms ∷ h)))
+          (moved (moves.TickAll ms)) nodes (λ k d l. ticked_node (setup_of stage) h ms (slice_index_or nodes k d) (t.each k d l));
+      numbered = moved_numbers (moves.TickAll ms) 0 nodes t.numbered;
       running_are = among;
     }

@@ -8,7 +8,7 @@ mod stage;
 mod states;
 
 pub use bodies::{range_asked, sent_entry};
-pub use moves::{Move, can_not_move, hear, move_nodes, move_of};
-pub use running::running_nodes;
+pub use moves::{Move, can_not_move, hear, move_of};
+pub use running::move_all;
 pub use stage::{NodePlan, RangePlan, Stage};
 pub use states::NodeState;

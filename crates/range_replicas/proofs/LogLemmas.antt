@@ -1,5 +1,5 @@
 -- The first entries of a log that grows, and its leases.
-use Rattle.std.proofs.Common.{◌≡◌, ◌-◌, ◌<◌, ◌≤◌, ◌∙◌, ◌++◌, ℕ, zero, suc, List, [], ◌∷◌, None, Some, IfSome, drop, length, refl, ap, subst, arith, length-append}
+use Rattle.std.proofs.Common.{◌≡◌, ◌-◌, ◌<◌, ◌≤◌, ◌∙◌, ◌++◌, ℕ, zero, suc, List, [], ◌∷◌, None, Some, IsSome, IfSome, Option, drop, length, refl, ap, subst, arith, length-append}
 use Rattle.mr_base.specs.declared.messages.Request.{Request}
 use Rattle.mr_base.specs.declared.messages.Request.TheVariants as requests
 use Rattle.range_log.specs.Facts.{first_entries, lease_of}
@@ -7,7 +7,7 @@ use Rattle.range_log.specs.declared.entries.Entry.{Entry}
 use Rattle.range_log.specs.declared.entries.Entry.TheVariants as log
 use Rattle.range_log.specs.declared.entries.Lease.{Lease}
 use Rattle.range_replicas.specs.Sound.{AreNumbered}
-use Rattle.range_rules.specs.Added.{AreLicensed}
+use Rattle.range_rules.specs.Added.{AreLicensed, added_to}
 use Rattle.range_server.specs.Handling.{Licenses}
 use Rattle.range_server.specs.Scene.{Scene}
 
@@ -76,3 +76,34 @@ module _ (sc : Scene) (q : Request) where
   still_numbered (log.State a state ∷ added) before h n = still_numbered added before h.1 n
   still_numbered (log.Close ts ∷ added) before h n = still_numbered added before h.1 n
   still_numbered (log.Load ts key value ∷ added) before h n = still_numbered added before h.1 n
+
+-- what a log grew by
+pub added_one : (e : Entry) (entries after : List Entry) → after ≡ e ∷ entries → added_to entries after ≡ e ∷ []
+added_one e entries after grown =
+    let one : suc (length entries) - length entries ≡ 1 = omega arith in
+    ap (λ (x : List Entry). added_to entries x) grown ∙ rw one
+
+pub added_none : (entries after : List Entry) → after ≡ entries → added_to entries after ≡ []
+added_none entries after same =
+    let none : length entries - length entries ≡ 0 = omega arith in
+    ap (λ (x : List Entry). added_to entries x) same ∙ rw none
+
+-- a longer list has a lease where a shorter one has one
+pub lease_kept : (entries : List Entry) (n : ℕ) → IsSome (lease_of (drop n entries)) → IsSome (lease_of entries)
+lease_kept [] zero h = h
+lease_kept [] (suc n) h = h
+lease_kept (log.Lease m ∷ older) n h = refl
+lease_kept (log.Put a start anchor ts key value ∷ older) zero h = h
+lease_kept (log.Put a start anchor ts key value ∷ older) (suc n) h = lease_kept older n h
+lease_kept (log.Resolve a key fate ∷ older) zero h = h
+lease_kept (log.Resolve a key fate ∷ older) (suc n) h = lease_kept older n h
+lease_kept (log.State a state ∷ older) zero h = h
+lease_kept (log.State a state ∷ older) (suc n) h = lease_kept older n h
+lease_kept (log.Close ts ∷ older) zero h = h
+lease_kept (log.Close ts ∷ older) (suc n) h = lease_kept older n h
+lease_kept (log.Load ts key value ∷ older) zero h = h
+lease_kept (log.Load ts key value ∷ older) (suc n) h = lease_kept older n h
+
+pub if_some_weaker : {A : Type 0} (o : Option A) (P Q : A → Type 0) → ((x : A) → P x → Q x) → IfSome o P → IfSome o Q
+if_some_weaker None P Q f h = tt
+if_some_weaker (Some x) P Q f h = f x h

@@ -1,25 +1,33 @@
 -- A range stays sound when one of its servers acts.
-use Rattle.std.proofs.Common.{◌≡◌, ◌≢◌, ◌<◌, ◌≤◌, ◌-◌, ◌∙◌, ◌⊎◌, ◌++◌, ℕ, suc, List, [], ◌∷◌, None, Some, IsSome, IfSome, Option, Result, Ok, Err, OnOk, All, AllPairs, map, set, get_or, length, drop, refl, sym, ap, subst, inl, inr, arith, length-drop, length-append}
+use Rattle.std.proofs.Common.{◌≡◌, ◌≢◌, ◌<◌, ◌≤◌, ◌-◌, ◌+◌, ◌∙◌, ◌⊎◌, ◌++◌, ℕ, suc, List, [], ◌∷◌, None, Some, IsSome, IfSome, Option, Result, Ok, Err, IfOk, OnOk, All, AllPairs, map, set, get_or, length, drop, refl, sym, ap, subst, inl, inr, arith, length-drop, length-append}
 use Rattle.std.proofs.lemmas.Bool.{cases_eq, cases_lt, cases_order}
 use Rattle.std.proofs.lemmas.Grind.{get_or-set_at}
-use Rattle.std.proofs.lemmas.List.{get_or-map, get_or-set_other, length-map, length-set, map-set, set-get_or}
+use Rattle.std.proofs.lemmas.List.{drop-drop, get_or-map, get_or_read, get_or-set_other, length-map, length-set, map-set, set-get_or}
+use Rattle.std.specs.Prelude.{⊤}
+use Rattle.mr_base.specs.Nodes.{IsNode}
 use Rattle.mr_base.specs.declared.ids.NodeId.{NodeId}
 use Rattle.mr_base.specs.declared.messages.Request.{Request}
+use Rattle.mr_base.specs.declared.timestamps.Ts.{Ts}
 use Rattle.mvcc_range.specs.Follows.{Follows, ReplicaValue}
 use Rattle.range_log.specs.Facts.{first_entries, lease_of}
 use Rattle.range_log.specs.LogValue.{LogValue}
 use Rattle.range_log.specs.declared.entries.Entry.{Entry}
 use Rattle.range_log.specs.declared.entries.Entry.TheVariants as log
 use Rattle.range_log.specs.declared.entries.Lease.{Lease}
-use Rattle.range_replicas.proofs.LogLemmas.{all_first, first_behind, first_more, same_lease, seq_below, still_numbered}
+use Rattle.range_replicas.proofs.LogLemmas.{added_none, added_one, all_first, first_behind, first_more, if_some_weaker, lease_kept, same_lease, seq_below, still_numbered}
 use Rattle.range_replicas.specs.RangeValue.{RangeValue, replicas}
 use Rattle.range_replicas.specs.Sound.{AreNumbered, FollowsFirst, HasLease, HasNoLaterLease, HoldsWithAll, IsSound}
-use Rattle.range_rules.specs.Added.{AreLicensed}
+use Rattle.range_rules.specs.Added.{AreLicensed, added_to}
 use Rattle.range_rules.specs.Holding.{IsHolder, Names}
-use Rattle.range_server.specs.Applying.{applied_past}
+use Rattle.range_server.specs.Applying.{applied_past, seen_after}
+use Rattle.range_server.specs.Closing.{Closes}
 use Rattle.range_server.specs.Handling.{Licenses}
+use Rattle.range_server.specs.Leases.{Acquires, Extends, HasAnswered, HasRefused, Transfers}
 use Rattle.range_server.specs.Refusals.{CanAppend, IsByHolder}
 use Rattle.range_server.specs.Scene.{IsBeside, applied_by, scene}
+use Rattle.range_server.specs.Seen.{nothing_above}
+use Rattle.range_server.specs.declared.leases.LeaseRefusal.{LeaseRefusal}
+use Rattle.range_server.specs.declared.leases.LeaseRefusal.TheVariants as refusals
 use Rattle.range_server.specs.declared.reads.Handled.{Handled}
 use Rattle.range_server.specs.declared.standing.Moment.{Moment}
 use Rattle.range_server.specs.declared.standing.Standing.{Standing}
@@ -209,3 +217,173 @@ module _ (r : RangeValue) (sound : IsSound r) (place : ℕ) (within : place < le
       (still_numbered (scene server r.log now) q added r.log.entries licensed sound.leases) held applied
       (subst (λ (s : Standing). IsBeside s after.entries) kept beside))
   handled_sound (Err e) now q after t added grown licensed held applied kept beside voters = tt
+
+  -- the server's node is one
+  pub node_here : IsNode server.node
+  node_here =
+      let at : Standing → NodeId = λ s. s.node in
+      let nodes : All IsNode (map at r.servers) = subst (λ (x : List NodeId). All IsNode x) (sym sound.nodes) sound.numbered in
+      let long : length (map at r.servers) ≡ length r.servers = length-map r.servers at in
+      subst IsNode (get_or-map at r.servers place server server.node within ∙ ap at (sym is)) (nodes place server.node (omega (arith, long, within)))
+
+  -- nothing was done
+  refused_sound : (after : LogValue) (t : Standing) → t ≡ server → after.entries ≡ r.log.entries → after.voters ≡ r.log.voters → IsSound (changed after t)
+  refused_sound after t same entries voters =
+      subst (λ (s : Standing). IsSound (changed after s)) (sym same)
+      (same_sound server.replica server.cache after entries voters refl (here (FollowsFirst r.log.entries) sound.follows))
+
+  last_below : (last lease : Lease) → lease_of r.log.entries ≡ Some last → lease.seq ≡ last.seq + 1
+      → IfSome (lease_of r.log.entries) (λ l. l.seq < lease.seq)
+  last_below last lease e s =
+      let below : last.seq < lease.seq = omega (arith, s) in
+      subst (λ (x : Option Lease). IfSome x (λ l. l.seq < lease.seq)) (sym e) below
+
+  -- a lease was taken
+  own_boot : (lease : Lease) → lease.holder ≡ server.node → lease.boot ≡ server.boot → All (λ s. lease.holder ≡ s.node → lease.boot ≤ s.boot) r.servers
+  own_boot lease holder boot = λ k d h named.
+      elim (cases_eq k place) as (λ _. lease.boot ≤ (get_or r.servers k d).boot) [
+        | inl e ↦
+            let s : server ≡ get_or r.servers k d = get_or_read r.servers place server within is d ∙ ap (λ (n : ℕ). get_or r.servers n d) (sym e) in
+            subst (λ (x : Standing). lease.boot ≤ x.boot) s (omega (arith, boot))
+        | inr n ↦ absurd (apart k d h n (sym named ∙ holder))
+      ]
+
+  pub acquired_sound : (result : Result Lease LeaseRefusal) (now : Moment) (after : LogValue) (t : Standing)
+      → Acquires (scene server r.log now) result after.entries
+      → IfOk result (λ lease. t ≡ record server { replica = t.replica; cache = nothing_above lease.low })
+      → OnOk result (Follows t.replica after.entries) → (HasRefused result → t ≡ server) → (HasAnswered result → after.voters ≡ r.log.voters)
+      → HasAnswered result → IsSound (changed after t)
+  acquired_sound (Ok lease) now after t answer kept follows refused voters answered =
+      subst (λ (s : Standing). IsSound (changed after s)) (sym kept)
+      (leased_sound t.replica (nothing_above lease.low) after lease answer.appended (voters tt) follows
+      (last_below answer.last lease answer.is_last answer.acquired.seq) (own_boot lease answer.acquired.holder_is answer.acquired.boot_is))
+  acquired_sound (Err refusals.NotVoter) now after t answer kept follows refused voters answered =
+      refused_sound after t (refused tt) answer.1 (voters tt)
+  acquired_sound (Err (refusals.Live expiration)) now after t answer kept follows refused voters answered =
+      refused_sound after t (refused tt) answer.2 (voters tt)
+  acquired_sound (Err (refusals.NoQuorum down)) now after t answer kept follows refused voters answered =
+      refused_sound after t (refused tt) answer.3 (voters tt)
+  acquired_sound (Err refusals.NotHolder) now after t answer kept follows refused voters answered = absurd answer
+  acquired_sound (Err refusals.Memory) now after t answer kept follows refused voters answered = absurd answered
+
+  -- a lease was handed on
+  pub transferred_sound : (result : Result Lease LeaseRefusal) (now : Moment) (to : NodeId) (boot : ℕ) (after : LogValue) (t : Standing)
+      → All (λ s. s.node ≡ to → s.boot ≡ boot) r.servers
+      → Transfers (scene server r.log now) to boot result after.entries
+      → IfOk result (λ lease. t ≡ record server { replica = t.replica; cache = seen_after server.node server.boot (log.Lease lease ∷ []) server.cache })
+      → OnOk result (Follows t.replica after.entries) → (HasRefused result → t ≡ server) → (HasAnswered result → after.voters ≡ r.log.voters)
+      → HasAnswered result → IsSound (changed after t)
+  transferred_sound (Ok lease) now to boot after t boots answer kept follows refused voters answered =
+      subst (λ (s : Standing). IsSound (changed after s)) (sym kept)
+      (leased_sound t.replica (seen_after server.node server.boot (log.Lease lease ∷ []) server.cache) after lease answer.appended (voters tt) follows
+      (last_below answer.last lease answer.holds.last answer.transferred.seq)
+      (λ k d h named.
+      let one : (get_or r.servers k d).boot ≡ boot = boots k d h (sym named ∙ answer.transferred.holder_is) in
+      omega (arith, one, answer.transferred.boot_is)))
+  transferred_sound (Err refusals.NotVoter) now to boot after t boots answer kept follows refused voters answered =
+      refused_sound after t (refused tt) answer.2 (voters tt)
+  transferred_sound (Err (refusals.Live expiration)) now to boot after t boots answer kept follows refused voters answered = absurd answer
+  transferred_sound (Err (refusals.NoQuorum down)) now to boot after t boots answer kept follows refused voters answered =
+      refused_sound after t (refused tt) answer.3 (voters tt)
+  transferred_sound (Err refusals.NotHolder) now to boot after t boots answer kept follows refused voters answered =
+      refused_sound after t (refused tt) answer.1 (voters tt)
+  transferred_sound (Err refusals.Memory) now to boot after t boots answer kept follows refused voters answered = absurd answered
+
+  -- a lease was extended
+  pub extended_sound : (result : Result Lease LeaseRefusal) (now : Moment) (after : LogValue) (t : Standing)
+      → Extends (scene server r.log now) result after.entries → OnOk result (t ≡ record server { replica = t.replica })
+      → OnOk result (Follows t.replica after.entries) → (HasRefused result → t ≡ server) → (HasAnswered result → after.voters ≡ r.log.voters)
+      → HasAnswered result → IsSound (changed after t)
+  extended_sound (Ok lease) now after t answer kept follows refused voters answered =
+      subst (λ (s : Standing). IsSound (changed after s)) (sym kept)
+      (leased_sound t.replica server.cache after lease answer.appended (voters tt) follows
+      (last_below answer.last lease answer.holds.last answer.extended.seq)
+      (λ k d h named.
+      let had = subst (λ (x : Option Lease). IfSome x (λ l. l.holder ≡ (get_or r.servers k d).node → l.boot ≤ (get_or r.servers k d).boot))
+          answer.holds.last (sound.boots k d h) in
+      let before : answer.last.boot ≤ (get_or r.servers k d).boot = had (sym answer.extended.holder_is ∙ named) in
+      omega (arith, before, answer.extended.boot_is)))
+  extended_sound (Err refusals.NotVoter) now after t answer kept follows refused voters answered = absurd answer
+  extended_sound (Err (refusals.Live expiration)) now after t answer kept follows refused voters answered = absurd answer
+  extended_sound (Err (refusals.NoQuorum down)) now after t answer kept follows refused voters answered =
+      refused_sound after t (refused tt) answer.2 (voters tt)
+  extended_sound (Err refusals.NotHolder) now after t answer kept follows refused voters answered =
+      refused_sound after t (refused tt) answer.1 (voters tt)
+  extended_sound (Err refusals.Memory) now after t answer kept follows refused voters answered = absurd answered
+
+  -- a timestamp was closed
+  pub closed_sound : (result : Result (Option Ts) LeaseRefusal) (now : Moment) (after : LogValue) (t : Standing)
+      → Closes (scene server r.log now) result after.entries → OnOk result (t ≡ record server { replica = t.replica })
+      → OnOk result (t.replica.applied ≡ applied_past (added_to r.log.entries after.entries) server.replica.applied after.entries)
+      → (HasRefused result → t ≡ server) → (HasAnswered result → IsBeside t after.entries)
+      → (HasAnswered result → after.voters ≡ r.log.voters) → HasAnswered result → IsSound (changed after t)
+  closed_sound (Ok (Some ts)) now after t answer kept applied refused beside voters answered =
+      subst (λ (s : Standing). IsSound (changed after s)) (sym kept)
+      (added_sound t.replica server.cache now after (log.Close ts ∷ []) answer.appended (voters tt) refl sound.leases
+      (record { lease = answer.lease; holds = answer.holds; majority = answer.quorum })
+      (applied ∙ ap (λ (x : List Entry). applied_past x server.replica.applied after.entries)
+      (added_one (log.Close ts) r.log.entries after.entries answer.appended))
+      (subst (λ (s : Standing). IsBeside s after.entries) kept (beside tt)))
+  closed_sound (Ok None) now after t answer kept applied refused beside voters answered =
+      subst (λ (s : Standing). IsSound (changed after s)) (sym kept)
+      (added_sound t.replica server.cache now after [] answer.3 (voters tt) refl sound.leases tt
+      (applied ∙ ap (λ (x : List Entry). applied_past x server.replica.applied after.entries) (added_none r.log.entries after.entries answer.3))
+      (subst (λ (s : Standing). IsBeside s after.entries) kept (beside tt)))
+  closed_sound (Err refusals.NotVoter) now after t answer kept applied refused beside voters answered = absurd answer
+  closed_sound (Err (refusals.Live expiration)) now after t answer kept applied refused beside voters answered = absurd answer
+  closed_sound (Err (refusals.NoQuorum down)) now after t answer kept applied refused beside voters answered =
+      refused_sound after t (refused tt) answer.2 (voters tt)
+  closed_sound (Err refusals.NotHolder) now after t answer kept applied refused beside voters answered =
+      refused_sound after t (refused tt) answer.1 (voters tt)
+  closed_sound (Err refusals.Memory) now after t answer kept applied refused beside voters answered = absurd answered
+
+  -- entries were applied
+  pub applied_sound : {E : Type 0} (result : Result ⊤ E) (upto : ℕ) (t : Standing) → server.replica.applied ≤ upto → upto ≤ length r.log.entries
+      → OnOk result (Follows t.replica (first_entries upto r.log.entries))
+      → (cache : CacheValue) → OnOk result (t ≡ record server { replica = t.replica; cache = cache }) → OnOk result (IsSound (changed r.log t))
+  applied_sound (Err e) upto t from to follows cache kept = tt
+  applied_sound (Ok x) upto t from to follows cache kept =
+      let entries = r.log.entries in
+      let had = server.replica.applied in
+      let new : Standing = record server { replica = t.replica; cache = cache } in
+      let count : t.replica.applied ≡ upto
+      = omega (arith, follows.count, length-drop (length entries - upto) entries, to) in
+      let at : first_entries t.replica.applied entries ≡ first_entries upto entries = ap (λ (n : ℕ). first_entries n entries) count in
+      let long : (length entries - upto) + (upto - had) ≡ length entries - had = omega (arith, from, to) in
+      let parts : drop (upto - had) (first_entries upto entries) ≡ first_entries had entries
+      = drop-drop (upto - had) (length entries - upto) entries ∙ ap (λ (n : ℕ). drop n entries) long in
+      let leased : HasLease entries new
+      = subst (λ (x : List Entry). IsSome (lease_of x)) (sym at)
+          (lease_kept (first_entries upto entries) (upto - had)
+          (subst (λ (x : List Entry). IsSome (lease_of x)) (sym parts) (here (HasLease entries) sound.leased))) in
+      let whole : HoldsWithAll entries new
+      = λ n lease more h. here (HoldsWithAll entries) sound.whole n lease (omega (arith, count, from, more)) h in
+      let all : (P : Standing → Type 0) → All P r.servers → P new → All P (set r.servers place new)
+      = λ P a p. all_set P r.servers place new within p (λ k d h n. a k d h) in
+      subst (λ (s : Standing). IsSound (changed r.log s)) (sym kept)
+      (sound_with r.log new refl refl refl sound.leases
+      (all (FollowsFirst entries) sound.follows (subst (λ (x : List Entry). Follows t.replica x) (sym at) follows))
+      (all (HasLease entries) sound.leased leased) (all (HoldsWithAll entries) sound.whole whole)
+      (all (HasNoLaterLease entries) sound.boots (here (HasNoLaterLease entries) sound.boots)))
+
+  -- the node has started again
+  pub restarted_sound : (boot : ℕ) (t : Standing) (cache : CacheValue) → server.boot < boot → t ≡ record server { boot = boot; cache = cache }
+      → IsSound (changed r.log t)
+  restarted_sound boot t cache later kept =
+      let entries = r.log.entries in
+      let new : Standing = record server { boot = boot; cache = cache } in
+      let boots = here (HasNoLaterLease entries) sound.boots in
+      let no_later : HasNoLaterLease entries new
+      = if_some_weaker (lease_of entries) (λ l. l.holder ≡ server.node → l.boot ≤ server.boot) (λ l. l.holder ≡ server.node → l.boot ≤ boot)
+          (λ l f named. let below : l.boot ≤ server.boot = f named in omega (arith, below, later)) boots in
+      let whole : HoldsWithAll entries new
+      = λ n lease more h.
+          let below : lease.boot ≤ server.boot
+          = subst (λ (x : Option Lease). IfSome x (λ l. l.holder ≡ server.node → l.boot ≤ server.boot)) h.last boots h.names.0 in
+          absurd (let never : ⊥ = omega (arith, below, later, h.names.1) in never) in
+      let all : (P : Standing → Type 0) → All P r.servers → P new → All P (set r.servers place new)
+      = λ P a p. all_set P r.servers place new within p (λ k d h n. a k d h) in
+      subst (λ (s : Standing). IsSound (changed r.log s)) (sym kept)
+      (sound_with r.log new refl refl refl sound.leases (all (FollowsFirst entries) sound.follows (here (FollowsFirst entries) sound.follows))
+      (all (HasLease entries) sound.leased (here (HasLease entries) sound.leased)) (all (HoldsWithAll entries) sound.whole whole)
+      (all (HasNoLaterLease entries) sound.boots no_later))

@@ -1,4 +1,4 @@
-use Rattle.std.specs.Prelude.{◌≡◌, ◌++◌, ℕ, Bool, false, List, [], None, slice_index_or, slice_set}
+use Rattle.std.specs.Prelude.{◌≡◌, ◌++◌, ◌==◌, ℕ, Bool, false, List, [], None, slice_index_or, slice_set}
 use Rattle.mr_base.specs.declared.ids.NodeId.{NodeId}
 use Rattle.mr_base.specs.declared.ids.RangeId.{RangeId}
 use Rattle.closed_ts.specs.Targets.{at_wall}
@@ -39,6 +39,10 @@ nobody =
 -- The server of the replica at a place, from 0.
 abbrev pub server_at : ℕ → RangeValue → Standing
 server_at place r = slice_index_or r.servers place nobody
+
+-- A server is at a node, as a test.
+abbrev pub is_at : NodeId → Standing → Bool
+is_at node s = s.node.0 == node.0
 
 -- What it finds where it is asked.
 abbrev pub scene_at : ℕ → RangeValue → Moment → Scene

@@ -17,6 +17,7 @@ ghost use Rattle.range_server.specs.Refusals.{IsByHolder};
 ghost use Rattle.range_server.specs.Scene.{applied_by, moment};
 ghost use Rattle.range_server.specs.Seen.{nothing_above};
 
+use crate::making::{end_of, place_in, servers_of, set_of};
 use mr_base::{Memory, NodeId, NodeSet, RangeId, Reading, Request, Settings, Ts};
 use range_log::{Lease, RangeLog};
 use range_server::{Handled, LeaseRefusal, Server};
@@ -78,7 +79,25 @@ impl ReplicatedRange {
         ensures begun { IfOk result (λ r. All (HasBegun r.log.entries) r.servers) }
         ensures sound { IfOk result (λ r. IsSound r) }
     {
-        Err(Memory)
+        let first = Lease {
+            seq: 1,
+            holder: voters[0],
+            boot: boots[0],
+            expiration: end_of(wall, s.lease)?,
+            low,
+        };
+        let log = RangeLog::new(alloc, set_of(voters), first)?;
+        let mut nodes = voters.to_vec(alloc)?;
+        nodes.extend_from_slice(others)?;
+        let servers = servers_of(alloc, nodes.as_slice(), boots, is_global, &log)?;
+        Ok(ReplicatedRange {
+            number,
+            voters: voters.to_vec(alloc)?,
+            others: others.to_vec(alloc)?,
+            is_global,
+            log,
+            servers,
+        })
     }
 
     /// Hands a request to the server at a place, which answers it.
@@ -248,7 +267,7 @@ impl ReplicatedRange {
         ensures { MatchOption result (¬ Contains (replicas self.now) node)
             (λ place. (place < length self.now.servers) × ((server_at place self.now).node ≡ node)) }
     {
-        self.servers.iter().position(|server| server.node() == node)
+        place_in(self.servers.as_slice(), node)
     }
 
     /// The server of the replica at a place.

@@ -21,6 +21,7 @@ refused_keeps s txn why t due =
       laws = (record { order = due; message = tt; append = tt; waited = tt; begun = tt }, t.laws);
       count = t.count;
       nodes_are = t.nodes_are;
+      ranges_are = t.ranges_are;
       mails_are = t.mails_are;
       begun_are = t.begun_are;
       sent_are = t.sent_are;
@@ -34,6 +35,7 @@ acknowledged_keeps s txn ts results t due waited =
       laws = (record { order = due; message = tt; append = tt; waited = waited; begun = tt }, t.laws);
       count = t.count;
       nodes_are = t.nodes_are;
+      ranges_are = t.ranges_are;
       mails_are = t.mails_are;
       begun_are = t.begun_are;
       sent_are = t.sent_are;
@@ -47,6 +49,7 @@ faulted_keeps s txn ts state t due waited =
       laws = (record { order = due; message = tt; append = tt; waited = waited; begun = tt }, t.laws);
       count = t.count;
       nodes_are = t.nodes_are;
+      ranges_are = t.ranges_are;
       mails_are = t.mails_are;
       begun_are = t.begun_are;
       sent_are = t.sent_are;
@@ -60,6 +63,7 @@ lost_keeps s txn t due =
       laws = (record { order = due; message = tt; append = tt; waited = tt; begun = tt }, t.laws);
       count = t.count;
       nodes_are = t.nodes_are;
+      ranges_are = t.ranges_are;
       mails_are = t.mails_are;
       begun_are = t.begun_are;
       sent_are = t.sent_are;

@@ -18,6 +18,7 @@ fated_keeps s a b f t step own =
       laws = (record { order = (step, own); message = tt; append = tt; waited = tt; begun = tt }, t.laws);
       count = t.count;
       nodes_are = t.nodes_are;
+      ranges_are = t.ranges_are;
       mails_are = t.mails_are;
       begun_are = t.begun_are;
       sent_are = t.sent_are;

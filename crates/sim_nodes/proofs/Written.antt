@@ -1,7 +1,7 @@
 use Rattle.std.proofs.Common.{◌≡◌, List, [], ◌∷◌, refl, sym, ap, ◌∙◌, subst}
 use Rattle.journal.specs.declared.entries.JournalEntry.{JournalEntry}
 use Rattle.run_ledger.specs.LedgerValue.{LedgerValue}
-use Rattle.run_words.specs.History.{History, Made}
+use Rattle.run_words.specs.History.{History, Item, Made}
 use Rattle.sim_nodes.specs.Tied.{HasMade, IsTied, IsTiedTo, past}
 use Rattle.sim_nodes.specs.declared.state.State.{State}
 
@@ -20,9 +20,20 @@ tied_with t l h i =
       laws = i.laws;
       count = i.count;
       nodes_are = i.nodes_are;
+      ranges_are = i.ranges_are;
       mails_are = i.mails_are;
       begun_are = i.begun_are;
       sent_are = i.sent_are;
+    }
+
+-- what was changed beside the ledger is tied with an item that happened
+pub made_item : (s t : State) → t.stage ≡ s.stage → (l : LedgerValue) (x : Item) → l.history ≡ x ∷ past s → IsTiedTo (x ∷ past s) t
+    → HasMade (x ∷ []) s (record t { ledger = l })
+made_item s t same l x e tied =
+    record {
+      stage = same;
+      history = e;
+      tied = subst (λ (h : History). IsTiedTo h (with_ledger t l)) (sym e) (tied_with t l (x ∷ past s) tied);
     }
 
 -- what was changed beside the ledger is tied with the entry that was made

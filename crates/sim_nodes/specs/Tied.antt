@@ -4,7 +4,8 @@ use Rattle.node_states.specs.Placed.{KeepsLaws}
 use Rattle.node_states.specs.Stage.{IsStage, setup_of}
 use Rattle.node_states.specs.Ties.{MailsTied, NodesTied}
 use Rattle.node_states.specs.declared.stage.Stage.{Stage}
-use Rattle.run_words.specs.History.{History, Item}
+use Rattle.replica_states.specs.RangeTies.{RangesTied}
+use Rattle.run_words.specs.History.{History}
 use Rattle.run_words.specs.Messages.{messages}
 use Rattle.run_words.specs.Setup.{Setup}
 use Rattle.run_words.specs.Transactions.{attempts}
