@@ -1,4 +1,5 @@
 pub mod EndingLemmas
+pub mod FlightLemmas
 pub mod LineLemmas
 pub mod QuietLemmas
 pub mod Written

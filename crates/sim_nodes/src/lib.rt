@@ -6,6 +6,7 @@ mod attempts;
 mod ended_txns;
 mod endings;
 mod lines;
+mod mails;
 mod nodes;
 mod state;
 
