@@ -28,6 +28,10 @@ stopped node = record node { runs = false }
 abbrev pub started : NodeState → NodeState
 started node = record node { clock = record node.clock { kept = nothing }; boot = node.boot + 1; runs = true }
 
+-- A clock keeps another reading.
+abbrev pub with_kept : Reading → NodeState → NodeState
+with_kept r node = record node { clock = record node.clock { kept = r } }
+
 -- The node that takes a message takes in the clock that came with it.
 abbrev pub heard : Option Reading → NodeState → NodeState
 heard clock node = record node { clock = record node.clock { kept = seen_with clock node.clock.kept } }

@@ -1,3 +1,4 @@
+pub mod BeginLemmas
 pub mod EndingLemmas
 pub mod FlightLemmas
 pub mod LineLemmas

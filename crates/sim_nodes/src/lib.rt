@@ -3,6 +3,7 @@
 #![tactic(auto)]
 
 mod attempts;
+mod beginnings;
 mod ended_txns;
 mod endings;
 mod lines;
@@ -10,4 +11,5 @@ mod mails;
 mod nodes;
 mod state;
 
+pub use beginnings::Begun;
 pub use nodes::Nodes;
