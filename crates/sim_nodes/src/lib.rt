@@ -8,6 +8,7 @@ mod endings;
 mod lines;
 mod mails;
 mod nodes;
+mod shows;
 mod state;
 
 pub use nodes::Nodes;
