@@ -94,7 +94,9 @@ impl Hints {
     /// A reply has told a lease: it counts where its sequence is higher.
     pub fn learn_told(&mut self, place: usize, told: Hint)
         requires { place < length self.old }
-        ensures { (old : Hint) → slice_get self.old place ≡ Some old → self.new ≡ slice_set self.old place (newer_hint told old) }
+        ensures count { length self.new ≡ length self.old }
+        ensures hint { (old : Hint) → slice_get self.old place ≡ Some old →
+            self.new ≡ slice_set self.old place (newer_hint told old) }
     {
         self.by_place[place] = told.unless_older(self.by_place[place]);
     }
