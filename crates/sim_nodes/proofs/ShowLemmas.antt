@@ -58,7 +58,7 @@ node_is s n d t there =
 -- a node is shown as the words say of it
 pub node_as_shown : (s : State) (n : NodeId) (x : NodeState) → IsTied s → IsThere s.stage n → x ≡ slice_index_or s.nodes.items (n.0 - 1) x
     → entry.ShowNode n (reading_of x.clock.physical x.clock.kept) x.runs x.boot
-      ≡ entry.ShowNode n (reading (the_setup s) (past s) n) (is_running (the_setup s) (past s) n) (boot (the_setup s) (past s) n)
+    ≡ entry.ShowNode n (reading (the_setup s) (past s) n) (is_running (the_setup s) (past s) n) (boot (the_setup s) (past s) n)
 node_as_shown s n x t there e =
     let at : IsNodeAt s n x = subst (λ (y : NodeState). IsNodeAt s n y) (sym e) (node_is s n x t there) in
     let i : x.id ≡ n = at.1 in

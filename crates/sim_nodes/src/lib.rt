@@ -5,6 +5,7 @@
 mod attempts;
 mod ended_txns;
 mod endings;
+mod hints;
 mod lines;
 mod mails;
 mod nodes;
