@@ -6,9 +6,11 @@ mod attempts;
 mod beginnings;
 mod ended_txns;
 mod endings;
+mod hints;
 mod lines;
 mod mails;
 mod nodes;
+mod shows;
 mod state;
 
 pub use beginnings::Begun;
