@@ -1,3 +1,4 @@
 mod LogLemmas
 mod PlaceLemmas
 mod SoundLemmas
+mod VoterLemmas

@@ -110,7 +110,7 @@ module _ (r : RangeValue) (nodes : List NodeId) (boots : List ℕ) (lease : Leas
       ]
     where
       positive : (n : ℕ) → (0 < n) ⊎ (n ≡ 0)
-      positive n = elim (cases_lt 0 n) as (λ _. (0 < n) ⊎ (n ≡ 0)) [ | inl p ↦ inl p | inr z ↦ inr (omega (arith, z)) ]
+      positive n = elim (cases_lt 0 n) as (λ _. (0 < n) ⊎ (n ≡ 0)) [ inl p ↦ inl p | inr z ↦ inr (omega (arith, z)) ]
 
   pub begun_sound : lease.holder ≡ get_or nodes 0 lease.holder → lease.boot ≡ get_or boots 0 lease.boot → All IsNode nodes
       → r.log.voters ≡ set_of r.voters → IsSound r

@@ -1,5 +1,5 @@
 -- A range stays sound when one of its servers acts.
-use Rattle.std.proofs.Common.{◌≡◌, ◌≢◌, ◌<◌, ◌≤◌, ◌-◌, ◌+◌, ◌∙◌, ◌⊎◌, ◌++◌, ℕ, suc, List, [], ◌∷◌, None, Some, IsSome, IfSome, Option, Result, Ok, Err, IfOk, OnOk, All, AllPairs, map, set, get_or, length, drop, refl, sym, ap, subst, inl, inr, arith, length-drop, length-append}
+use Rattle.std.proofs.Common.{◌≡◌, ◌≢◌, ◌<◌, ◌≤◌, ◌-◌, ◌+◌, ◌∙◌, ◌++◌, ℕ, suc, List, [], ◌∷◌, None, Some, IsSome, IfSome, Option, Result, Ok, Err, IfOk, OnOk, All, AllPairs, map, set, get_or, length, drop, refl, sym, ap, subst, inl, inr, arith, length-drop}
 use Rattle.std.proofs.lemmas.Bool.{cases_eq, cases_lt, cases_order}
 use Rattle.std.proofs.lemmas.Grind.{get_or-set_at}
 use Rattle.std.proofs.lemmas.List.{drop-drop, get_or-map, get_or_read, get_or-set_other, length-map, length-set, map-set, set-get_or}
@@ -15,10 +15,9 @@ use Rattle.range_log.specs.declared.entries.Entry.{Entry}
 use Rattle.range_log.specs.declared.entries.Entry.TheVariants as log
 use Rattle.range_log.specs.declared.entries.Lease.{Lease}
 use Rattle.range_replicas.proofs.LogLemmas.{added_none, added_one, all_first, first_behind, first_more, if_some_weaker, lease_kept, same_lease, seq_below, still_numbered}
-use Rattle.range_replicas.specs.RangeValue.{RangeValue, replicas}
+use Rattle.range_replicas.specs.RangeValue.{RangeValue}
 use Rattle.range_replicas.specs.Sound.{AreNumbered, FollowsFirst, HasLease, HasNoLaterLease, HoldsWithAll, IsSound}
 use Rattle.range_rules.specs.Added.{AreLicensed, added_to}
-use Rattle.range_rules.specs.Holding.{IsHolder, Names}
 use Rattle.range_server.specs.Applying.{applied_past, seen_after}
 use Rattle.range_server.specs.Closing.{Closes}
 use Rattle.range_server.specs.Handling.{Licenses}
@@ -104,7 +103,7 @@ module _ (r : RangeValue) (sound : IsSound r) (place : ℕ) (within : place < le
       let at : Standing → NodeId = λ s. s.node in
       let same : map at (set r.servers place new) ≡ map at r.servers
       = map-set at r.servers place new ∙ ap (λ (x : NodeId). set (map at r.servers) place x)
-          (node ∙ ap at is ∙ sym (get_or-map at r.servers place server server.node within)) ∙ set-get_or (map at r.servers) place server.node in
+      (node ∙ ap at is ∙ sym (get_or-map at r.servers place server server.node within)) ∙ set-get_or (map at r.servers) place server.node in
       record {
         nodes = same ∙ sound.nodes;
         distinct = sound.distinct;
@@ -134,7 +133,7 @@ module _ (r : RangeValue) (sound : IsSound r) (place : ℕ) (within : place < le
         = λ n lease from h. here (HoldsWithAll entries) sound.whole n lease (subst (λ (m : ℕ). m ≤ n) applied from) h in
         let all : (P : List Entry → Standing → Type 0) → All (P entries) r.servers → P entries new → All (P after.entries) (set r.servers place new)
         = λ P a p. subst (λ (x : List Entry). All (P x) (set r.servers place new)) (sym same)
-            (all_set (P entries) r.servers place new within p (λ k d h n. a k d h)) in
+        (all_set (P entries) r.servers place new within p (λ k d h n. a k d h)) in
         sound_with after new refl refl voters (subst AreNumbered (sym same) sound.leases) (all FollowsFirst sound.follows follows) (all HasLease sound.leased leased)
         (all HoldsWithAll sound.whole whole) (all HasNoLaterLease sound.boots (here (HasNoLaterLease entries) sound.boots))
 
@@ -160,9 +159,9 @@ module _ (r : RangeValue) (sound : IsSound r) (place : ℕ) (within : place < le
         let numbered : AreNumbered entries = (above, sound.leases) in
         let f : Follows replica entries = subst (λ (x : List Entry). Follows replica x) grown follows in
         let all : (P : List Entry → Standing → Type 0) → P entries new
-            → ((k : ℕ) (d : Standing) → k < length r.servers → P entries (get_or r.servers k d)) → All (P after.entries) (set r.servers place new)
+        → ((k : ℕ) (d : Standing) → k < length r.servers → P entries (get_or r.servers k d)) → All (P after.entries) (set r.servers place new)
         = λ P p a. subst (λ (x : List Entry). All (P x) (set r.servers place new)) (sym grown)
-            (all_set (P entries) r.servers place new within p (λ k d h n. a k d h)) in
+        (all_set (P entries) r.servers place new within p (λ k d h n. a k d h)) in
         sound_with after new refl refl voters (subst AreNumbered (sym grown) numbered)
         (all FollowsFirst (follows_all entries f) (λ k d h. follows_more (get_or r.servers k d) (log.Lease lease ∷ []) r.log.entries (sound.follows k d h)))
         (all HasLease (leased_all entries lease f refl)
@@ -178,7 +177,7 @@ module _ (r : RangeValue) (sound : IsSound r) (place : ℕ) (within : place < le
         let entries = (e ∷ added) ++ r.log.entries in
         let f : Follows replica entries = subst (λ (x : List Entry). Follows replica x) grown follows in
         let all : (P : List Entry → Standing → Type 0) → P entries new
-            → ((k : ℕ) (d : Standing) → k < length r.servers → k ≢ place → P entries (get_or r.servers k d)) → All (P after.entries) (set r.servers place new)
+        → ((k : ℕ) (d : Standing) → k < length r.servers → k ≢ place → P entries (get_or r.servers k d)) → All (P after.entries) (set r.servers place new)
         = λ P p a. subst (λ (x : List Entry). All (P x) (set r.servers place new)) (sym grown) (all_set (P entries) r.servers place new within p a) in
         let no_later : (s : Standing) → HasNoLaterLease r.log.entries s → HasNoLaterLease entries s
         = λ s h. subst (λ (x : Option Lease). IfSome x (λ lease. lease.holder ≡ s.node → lease.boot ≤ s.boot)) (sym same) h in
@@ -300,7 +299,7 @@ module _ (r : RangeValue) (sound : IsSound r) (place : ℕ) (within : place < le
       (last_below answer.last lease answer.holds.last answer.extended.seq)
       (λ k d h named.
       let had = subst (λ (x : Option Lease). IfSome x (λ l. l.holder ≡ (get_or r.servers k d).node → l.boot ≤ (get_or r.servers k d).boot))
-          answer.holds.last (sound.boots k d h) in
+      answer.holds.last (sound.boots k d h) in
       let before : answer.last.boot ≤ (get_or r.servers k d).boot = had (sym answer.extended.holder_is ∙ named) in
       omega (arith, before, answer.extended.boot_is)))
   extended_sound (Err refusals.NotVoter) now after t answer kept follows refused voters answered = absurd answer
@@ -354,8 +353,8 @@ module _ (r : RangeValue) (sound : IsSound r) (place : ℕ) (within : place < le
       = drop-drop (upto - had) (length entries - upto) entries ∙ ap (λ (n : ℕ). drop n entries) long in
       let leased : HasLease entries new
       = subst (λ (x : List Entry). IsSome (lease_of x)) (sym at)
-          (lease_kept (first_entries upto entries) (upto - had)
-          (subst (λ (x : List Entry). IsSome (lease_of x)) (sym parts) (here (HasLease entries) sound.leased))) in
+      (lease_kept (first_entries upto entries) (upto - had)
+      (subst (λ (x : List Entry). IsSome (lease_of x)) (sym parts) (here (HasLease entries) sound.leased))) in
       let whole : HoldsWithAll entries new
       = λ n lease more h. here (HoldsWithAll entries) sound.whole n lease (omega (arith, count, from, more)) h in
       let all : (P : Standing → Type 0) → All P r.servers → P new → All P (set r.servers place new)
@@ -375,12 +374,12 @@ module _ (r : RangeValue) (sound : IsSound r) (place : ℕ) (within : place < le
       let boots = here (HasNoLaterLease entries) sound.boots in
       let no_later : HasNoLaterLease entries new
       = if_some_weaker (lease_of entries) (λ l. l.holder ≡ server.node → l.boot ≤ server.boot) (λ l. l.holder ≡ server.node → l.boot ≤ boot)
-          (λ l f named. let below : l.boot ≤ server.boot = f named in omega (arith, below, later)) boots in
+      (λ l f named. let below : l.boot ≤ server.boot = f named in omega (arith, below, later)) boots in
       let whole : HoldsWithAll entries new
       = λ n lease more h.
-          let below : lease.boot ≤ server.boot
-          = subst (λ (x : Option Lease). IfSome x (λ l. l.holder ≡ server.node → l.boot ≤ server.boot)) h.last boots h.names.0 in
-          absurd (let never : ⊥ = omega (arith, below, later, h.names.1) in never) in
+      let below : lease.boot ≤ server.boot
+      = subst (λ (x : Option Lease). IfSome x (λ l. l.holder ≡ server.node → l.boot ≤ server.boot)) h.last boots h.names.0 in
+      absurd (let never : ⊥ = omega (arith, below, later, h.names.1) in never) in
       let all : (P : Standing → Type 0) → All P r.servers → P new → All P (set r.servers place new)
       = λ P a p. all_set P r.servers place new within p (λ k d h n. a k d h) in
       subst (λ (s : Standing). IsSound (changed r.log s)) (sym kept)

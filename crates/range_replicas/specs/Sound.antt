@@ -1,6 +1,5 @@
-use Rattle.std.specs.Prelude.{◌≡◌, ◌≢◌, ◌≤◌, ◌<◌, ⊤, ℕ, List, [], ◌∷◌, Option, None, Some, IsSome, IfSome, All, AllPairs, map}
+use Rattle.std.specs.Prelude.{◌≡◌, ◌≢◌, ◌≤◌, ◌<◌, ⊤, ℕ, List, [], ◌∷◌, IsSome, IfSome, All, AllPairs, map}
 use Rattle.mr_base.specs.Nodes.{IsNode}
-use Rattle.mr_base.specs.declared.ids.NodeId.{NodeId}
 use Rattle.mvcc_range.specs.Follows.{Follows}
 use Rattle.range_log.specs.Facts.{first_entries, lease_of}
 use Rattle.range_log.specs.declared.entries.Entry.{Entry}

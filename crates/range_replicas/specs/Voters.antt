@@ -1,4 +1,4 @@
-use Rattle.std.specs.Prelude.{◌≡◌, ◌≢◌, ◌↔◌, ◌<◌, ◌*◌, ◌-◌, ◌^◌, ℕ, Bool, true, List, IsTrue, All, AllPairs, bit_or, filter, fold, length}
+use Rattle.std.specs.Prelude.{◌≡◌, ◌≢◌, ◌↔◌, ◌<◌, ◌*◌, ◌-◌, ◌^◌, Bool, true, List, IsTrue, All, AllPairs, bit_or, filter, fold, length}
 use Rattle.mr_base.specs.Nodes.{IsMember, IsNode}
 use Rattle.mr_base.specs.declared.ids.NodeId.{NodeId}
 use Rattle.mr_base.specs.declared.nodes.NodeSet.{NodeSet}

@@ -254,8 +254,10 @@ impl ReplicatedRange {
         requires place { place < length self.old.servers }
         requires sound { IsSound self.old }
         requires later { (server_at place self.old).boot < boot }
-        ensures changed { self.new ≡ record self.old { servers = slice_set self.old.servers place
-            (record (server_at place self.old) { boot = boot; cache = nothing_above Ts.ZERO }) } }
+        ensures changed { self.new ≡ record self.old {
+          servers = slice_set self.old.servers place
+              (record (server_at place self.old) { boot = boot; cache = nothing_above Ts.ZERO });
+        } }
         ensures sound { IsSound self.new }
     {
         self.servers[place].restart(boot);

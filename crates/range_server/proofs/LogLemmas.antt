@@ -1,16 +1,14 @@
 -- How many entries of a log were applied, and what one more makes of them.
-use Rattle.std.proofs.Common.{◌≡◌, ◌-◌, ◌+◌, ◌<◌, ◌≤◌, ◌∙◌, ◌++◌, ℕ, suc, Bool, true, false, cond, List, [], ◌∷◌, Some, length, get_or, take, drop, refl, sym, ap, arith, slice_get, length-drop, length-append, add-one}
+use Rattle.std.proofs.Common.{◌≡◌, ◌-◌, ◌+◌, ◌<◌, ◌≤◌, ◌∙◌, ◌++◌, ℕ, suc, List, [], ◌∷◌, Some, length, get_or, drop, refl, sym, ap, arith, slice_get, length-drop, length-append}
 use Rattle.std.proofs.Math.Seq.{drop-cons, take-append_seam}
 use Rattle.std.proofs.lemmas.Option.{get_or_from_slice_get}
 use Rattle.mvcc_range.specs.Follows.{Follows}
 use Rattle.range_log.specs.Facts.{first_entries}
 use Rattle.range_log.specs.declared.entries.Entry.{Entry}
 use Rattle.range_log.specs.declared.entries.Entry.TheVariants as log
-use Rattle.range_log.specs.declared.entries.Lease.{Lease}
 use Rattle.range_rules.specs.Added.{added_to}
-use Rattle.range_server.specs.Applying.{applied_past, is_named, seen_after}
+use Rattle.range_server.specs.Applying.{applied_past, seen_after}
 use Rattle.range_server.specs.Scene.{applied_by}
-use Rattle.range_server.specs.Seen.{nothing_above}
 use Rattle.range_server.specs.declared.standing.Standing.{Standing}
 use Rattle.mr_base.specs.declared.ids.NodeId.{NodeId}
 use Rattle.ts_cache.specs.Value.{CacheValue}

@@ -1,9 +1,9 @@
 -- The state of each outcome is licensed.
-use Rattle.std.proofs.Common.{◌≡◌, ◌⊎◌, ◌||◌, ℕ, ◌+◌, nat_lt, Bool, true, false, List, [], ◌∷◌, ◌++◌, Option, None, Some, Result, IfOk, MatchOption, inl, inr, refl, sym, subst, arith}
+use Rattle.std.proofs.Common.{◌≡◌, ◌⊎◌, ℕ, true, false, List, [], ◌∷◌, ◌++◌, Option, None, Some, Result, IfOk, MatchOption, inl, inr, refl, sym, subst, arith}
 use Rattle.std.proofs.lemmas.Bool.Decides.{nat_tests}
 use Rattle.std.proofs.lemmas.Result.{IfOk-weaker}
 use Rattle.closed_ts.specs.Targets.{at_wall}
-use Rattle.mr_base.specs.Timestamps.{IsBelow, later, ts_lt}
+use Rattle.mr_base.specs.Timestamps.{later, ts_lt}
 use Rattle.mr_base.specs.declared.ids.AttemptId.{AttemptId}
 use Rattle.mr_base.specs.declared.messages.Reply.{Reply}
 use Rattle.mr_base.specs.declared.timestamps.Ts.{Ts}
@@ -19,10 +19,9 @@ use Rattle.range_server.proofs.OrderLemmas.{by_test, later_right, lt_true, up_to
 use Rattle.range_server.specs.Puts.{Put, PutGives}
 use Rattle.range_server.specs.Refusals.{CanAppend, IsByHolder}
 use Rattle.range_server.specs.Records.{Changes, Settles, SettlesBy, committed_at, given_up, may_abort, met_by_writer, pushed_by_reader, pushed_by_writer}
-use Rattle.range_server.specs.Scene.{Scene, applied_in, scene}
+use Rattle.range_server.specs.Scene.{Scene, applied_in}
 use Rattle.range_server.specs.Steps.{IsStep, IsWriting}
 use Rattle.range_server.specs.declared.records.Outcome.{Outcome}
-use Rattle.range_server.specs.declared.standing.Moment.{Moment}
 use Rattle.range_server.specs.declared.standing.Standing.{Standing}
 
 -- the state that an outcome writes goes on from the record, by a rule

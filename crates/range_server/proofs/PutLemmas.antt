@@ -1,5 +1,5 @@
 -- What `put` answers.
-use Rattle.std.proofs.Common.{◌≡◌, ◌≢◌, ◌⊎◌, ◌∙◌, ℕ, Bool, true, List, [], ◌∷◌, Option, None, Some, refl, sym, ap, subst, inl, inr}
+use Rattle.std.proofs.Common.{◌≡◌, ◌∙◌, Bool, List, [], ◌∷◌, None, Some, refl, sym, ap, subst, inl, inr}
 use Rattle.mr_base.specs.declared.ids.AttemptId.{AttemptId}
 use Rattle.mr_base.specs.declared.messages.Fate.{Fate}
 use Rattle.mr_base.specs.declared.messages.Reply.{Reply}
@@ -13,11 +13,11 @@ use Rattle.range_log.specs.LogValue.{LogValue}
 use Rattle.range_log.specs.declared.entries.Entry.{Entry}
 use Rattle.range_log.specs.declared.entries.Entry.TheVariants as log
 use Rattle.range_log.specs.declared.entries.Lease.{Lease}
-use Rattle.range_rules.specs.Holding.{IsHolder, Names}
+use Rattle.range_rules.specs.Holding.{Names}
 use Rattle.range_server.proofs.FloorLemmas.{put_is}
 use Rattle.range_server.proofs.IntentLemmas.{none_after, one_intent}
 use Rattle.range_server.proofs.StepLemmas.{no_step, one_step, two_steps}
-use Rattle.range_server.specs.Puts.{IsFree, IsInWay, IsPutOf, IsPuts, IsSettledBy, Put, PutGives, ahead_of, entry_at, laid_at, read_at}
+use Rattle.range_server.specs.Puts.{IsFree, IsPuts, IsSettledBy, Put, PutGives, ahead_of, entry_at, laid_at, read_at}
 use Rattle.range_server.specs.Refusals.{IsRefusal, not_holder}
 use Rattle.range_server.specs.Scene.{Holds, IsBeside, applied_by, scene}
 use Rattle.range_server.specs.Steps.{IsAppended, IsStep}

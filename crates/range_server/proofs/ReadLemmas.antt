@@ -1,5 +1,5 @@
 -- By what right a server serves.
-use Rattle.std.proofs.Common.{◌≡◌, ◌∙◌, ◌↔◌, ℕ, Bool, false, true, IsTrue, List, Option, None, Some, refl, sym, subst}
+use Rattle.std.proofs.Common.{◌≡◌, ◌∙◌, ◌↔◌, ℕ, Bool, false, true, IsTrue, List, Option, Some, sym, subst}
 use Rattle.closed_ts.specs.Serving.{ServesByClosure, ServesByLease}
 use Rattle.mr_base.specs.declared.timestamps.Ts.{Ts}
 use Rattle.range_log.specs.Facts.{closed_of, lease_of}

@@ -1,5 +1,5 @@
 -- What resolving leaves of an attempt's intents.
-use Rattle.std.proofs.Common.{◌≡◌, ◌∙◌, ◌+◌, ◌<◌, ◌≤◌, ◌++◌, ℕ, Bool, true, false, List, [], ◌∷◌, None, Some, All, Contains, length, get_or, take, refl, sym, ap, subst, inl, inr, arith}
+use Rattle.std.proofs.Common.{◌≡◌, ◌∙◌, ◌+◌, ◌<◌, ◌++◌, ℕ, true, false, List, [], ◌∷◌, None, Some, All, Contains, length, get_or, take, refl, sym, ap, subst, inl, inr}
 use Rattle.std.proofs.lemmas.List.Elements.{All-more, All-nil, All-weaker, Contains-get_or}
 use Rattle.std.proofs.Math.Seq.{take-length}
 use Rattle.mr_base.specs.declared.ids.AttemptId.{AttemptId}
@@ -11,8 +11,8 @@ use Rattle.range_log.specs.LogValue.{LogValue}
 use Rattle.range_log.specs.declared.entries.Entry.{Entry}
 use Rattle.range_log.specs.declared.entries.Entry.TheVariants as log
 use Rattle.range_log.specs.declared.entries.Lease.{Lease}
-use Rattle.range_rules.specs.Added.{AreLicensed, added_to}
-use Rattle.range_rules.specs.Holding.{IsHolder, Names}
+use Rattle.range_rules.specs.Added.{added_to}
+use Rattle.range_rules.specs.Holding.{Names}
 use Rattle.range_rules.specs.Resolves.{HasIntentOf}
 use Rattle.range_server.proofs.LogLemmas.{added_is, applied_all}
 use Rattle.range_server.proofs.OutcomeLemmas.{by_holder}
@@ -21,7 +21,7 @@ use Rattle.range_server.specs.Refusals.{CanAppend, IsRefusal}
 use Rattle.range_server.specs.Resolves.{AreResolved, IsResolveOf}
 use Rattle.range_server.specs.Resolving.{AreResolvedTo, IsResolvedAt}
 use Rattle.range_server.specs.Scene.{IsBeside, applied_by, scene}
-use Rattle.range_server.specs.Steps.{IsAppended, IsStep}
+use Rattle.range_server.specs.Steps.{IsStep}
 use Rattle.range_server.specs.declared.standing.Moment.{Moment}
 use Rattle.range_server.specs.declared.standing.Standing.{Standing}
 

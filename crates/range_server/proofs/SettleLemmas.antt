@@ -1,5 +1,5 @@
 -- What `settle` answers.
-use Rattle.std.proofs.Common.{◌≡◌, List, [], ◌∷◌, Option, None, Some, IsSome, refl, sym, subst, inl, inr}
+use Rattle.std.proofs.Common.{◌≡◌, List, None, Some, refl, sym, subst, inl, inr}
 use Rattle.mr_base.specs.declared.ids.AttemptId.{AttemptId}
 use Rattle.mr_base.specs.declared.messages.Reply.{Reply}
 use Rattle.mvcc_range.specs.Follows.{Follows}
@@ -9,7 +9,7 @@ use Rattle.range_log.specs.declared.entries.Entry.{Entry}
 use Rattle.range_log.specs.declared.entries.Entry.TheVariants as log
 use Rattle.range_log.specs.declared.entries.Lease.{Lease}
 use Rattle.range_log.specs.declared.entries.TxnState.{TxnState}
-use Rattle.range_rules.specs.Holding.{IsHolder, Names}
+use Rattle.range_rules.specs.Holding.{Names}
 use Rattle.range_server.proofs.StepLemmas.{no_step, one_step}
 use Rattle.range_server.specs.Records.{Settles}
 use Rattle.range_server.specs.Refusals.{IsRefusal, not_holder}

@@ -1,4 +1,4 @@
-use Rattle.std.specs.Prelude.{ℕ, [], Option, Some, None}
+use Rattle.std.specs.Prelude.{[], Option, Some, None}
 use Rattle.mr_base.specs.declared.timestamps.Ts.{Ts}
 use Rattle.range_server.specs.declared.reads_seen.TheConstants.{CAPACITY}
 use Rattle.ts_cache.specs.Value.{CacheValue}

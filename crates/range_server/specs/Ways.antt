@@ -1,4 +1,4 @@
-use Rattle.std.specs.Prelude.{◌≡◌, ◌⊎◌, ◌==◌, ◌+◌, ◌≤◌, ℕ, Bool, true, if◌then◌else◌, List, Option, None, Some, MatchOption, fold}
+use Rattle.std.specs.Prelude.{◌≡◌, ◌⊎◌, ◌==◌, ◌≤◌, ℕ, Bool, true, if◌then◌else◌, List, Option, None, Some, MatchOption, fold}
 use Rattle.mr_base.specs.Timestamps.{IsBelow, later}
 use Rattle.mr_base.specs.declared.ids.AttemptId.{AttemptId}
 use Rattle.mr_base.specs.declared.messages.Fate.{Fate}

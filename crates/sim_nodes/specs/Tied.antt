@@ -29,6 +29,7 @@ pub record IsTiedTo (h : History) (s : State) : Type 0 where
   pub laws : KeepsLaws (the_setup s) h
   pub count : length s.nodes.items ≡ length s.stage.nodes
   pub nodes_are : NodesTied (the_setup s) h s.nodes.items s.running
+  pub ranges_are : RangesTied (the_setup s) h s.ranges.items
   pub mails_are : MailsTied (the_setup s) h (length s.stage.nodes) s.sent s.flight.messages
   pub begun_are : s.attempts ≡ attempts (the_setup s) h
   pub sent_are : s.sent ≡ messages (the_setup s) h

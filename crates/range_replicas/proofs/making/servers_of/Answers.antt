@@ -1,4 +1,4 @@
-use Rattle.std.proofs.Common.{List, take, ◌+◌, sym, subst, arith}
+use Rattle.std.proofs.Common.{List, take, ◌+◌, sym, subst}
 use Rattle.range_replicas.proofs.PlaceLemmas.{one_server}
 use Rattle.range_replicas.specs.Beginning.{AreServersOf}
 use Rattle.range_server.specs.declared.standing.Standing.{Standing}

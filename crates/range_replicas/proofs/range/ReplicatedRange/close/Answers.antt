@@ -1,4 +1,4 @@
-use Rattle.std.proofs.Common.{List, ◌<◌, length, sym, subst}
+use Rattle.std.proofs.Common.{◌<◌, length, sym, subst}
 use Rattle.range_replicas.proofs.SoundLemmas.{closed_sound}
 use Rattle.range_replicas.specs.RangeValue.{RangeValue}
 use Rattle.range_replicas.specs.Sound.{IsSound}

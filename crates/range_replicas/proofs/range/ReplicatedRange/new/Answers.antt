@@ -1,4 +1,4 @@
-use Rattle.std.proofs.Common.{rules, ◌≡◌, ◌≢◌, ◌<◌, ◌++◌, ◌∙◌, List, All, AllPairs, length, get_or, sym, ap, subst, arith, length-append, refl}
+use Rattle.std.proofs.Common.{rules, ◌≡◌, ◌≢◌, ◌<◌, ◌++◌, ◌∙◌, List, All, AllPairs, length, sym, ap, subst, arith, length-append}
 use Rattle.std.proofs.lemmas.List.{get_or_default}
 use Rattle.mr_base.specs.Nodes.{IsNode}
 use Rattle.mr_base.specs.declared.ids.NodeId.{NodeId}

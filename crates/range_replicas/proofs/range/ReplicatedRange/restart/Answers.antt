@@ -1,4 +1,4 @@
-use Rattle.std.proofs.Common.{List, ◌<◌, length, sym, subst}
+use Rattle.std.proofs.Common.{◌<◌, length, sym, subst}
 use Rattle.std.proofs.lemmas.List.{get_or_read}
 use Rattle.range_server.specs.declared.standing.Standing.{Standing}
 use Rattle.range_replicas.proofs.SoundLemmas.{restarted_sound}

@@ -1,4 +1,4 @@
-use Rattle.std.proofs.Common.{List, All, ◌≡◌, ◌<◌, length, sym, subst}
+use Rattle.std.proofs.Common.{All, ◌≡◌, ◌<◌, length, sym, subst}
 use Rattle.range_replicas.proofs.SoundLemmas.{transferred_sound}
 use Rattle.range_replicas.specs.RangeValue.{RangeValue}
 use Rattle.range_replicas.specs.Sound.{IsSound}

@@ -1,4 +1,4 @@
-use Rattle.std.proofs.Common.{refl, arith}
+use Rattle.std.proofs.Common.{arith}
 use Rattle.range_server.proofs.LeaseLemmas.{applying_begins, applying_goes_on}
 use Rattle.range_server.proofs.standing.Standing.apply_to.Goals as goal
 

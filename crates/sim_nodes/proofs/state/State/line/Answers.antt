@@ -1,4 +1,0 @@
-use Rattle.sim_nodes.proofs.state.State.line.Goals as goal
-
-pub returns-clause-made : goal.returns-clause-made
-returns-clause-made c = ?
