@@ -42,6 +42,7 @@ dropped_keeps s f id t flying line e =
       laws = (record { order = line; message = flying; append = tt; waited = tt; begun = tt }, t.laws);
       count = t.count;
       nodes_are = t.nodes_are;
+      ranges_are = t.ranges_are;
       mails_are = rw e (record {
         tied = gone_mails (mail (past s)) (flight (past s)) s.sent s.flight.messages id t.mails_are.tied;
         placed = All-filter _ (IsMessagePlaced (the_setup s) (log_of (the_setup s) (past s)) (length s.stage.nodes)) s.flight.messages t.mails_are.placed;
@@ -61,6 +62,7 @@ sent_keeps s h f m t number e due so placed =
       laws = (record { order = due; message = (number ∙ ap (λ k. k + 1) t.sent_are, so); append = tt; waited = tt; begun = tt }, t.laws);
       count = t.count;
       nodes_are = t.nodes_are;
+      ranges_are = t.ranges_are;
       mails_are = rw e (record {
         tied = sent_mails (mail h) (flight h) s.sent s.flight.messages m (answered_in (step_of h)) t.mails_are.tied number;
         placed = All-push (IsMessagePlaced (the_setup s) (log_of (the_setup s) h) (length s.stage.nodes)) s.flight.messages m t.mails_are.placed placed;

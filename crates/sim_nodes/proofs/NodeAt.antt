@@ -1,5 +1,8 @@
 -- What is kept of a node that is there.
 use Rattle.std.proofs.Common.{◌≡◌, ℕ, ◌<◌, ◌+◌, ◌-◌, ◌≤◌, Bool, List, length, get_or, refl, sym, ap, ◌∙◌, subst, arith, Some}
+use Rattle.std.proofs.Common.{None}
+use Rattle.std.specs.Prelude.{Option}
+use Rattle.std.specs.Option.{SomeIff}
 use Rattle.mr_base.specs.declared.ids.NodeId.{NodeId}
 use Rattle.hlc.specs.Readings.{reading_of}
 use Rattle.node_states.proofs.RunningLemmas.{number_at}
@@ -39,3 +42,8 @@ reading_at s h n node t there e =
 pub runs_at : (s : State) (h : History) (n : NodeId) (node : NodeState) → IsTiedTo h s → IsThere s.stage n → node ≡ get_or s.nodes.items (n.0 - 1) node
     → node.runs ≡ is_running (the_setup s) h n
 runs_at s h n node t there e = (tied_at s h n node t there e).runs_is ∙ ap (is_running (the_setup s) h) (id_at s h n node t there e)
+
+-- a sum that fits its type
+pub given_some : (r : Option ℕ) (P : Type 0) (x v : ℕ) → r ≡ Some x → SomeIff r P v → x ≡ v
+given_some None P x v e g = absurd (cc)
+given_some (Some y) P x v e g = let same : y ≡ x = cc in sym same ∙ g.1
