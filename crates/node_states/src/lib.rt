@@ -2,6 +2,7 @@
 #![tactic(auto)]
 
 mod bodies;
+mod first;
 mod moves;
 mod running;
 mod stage;
@@ -9,6 +10,7 @@ mod starts;
 mod states;
 
 pub use bodies::{range_asked, sent_entry};
+pub use first::first_nodes;
 pub use moves::{Move, can_not_move, hear, move_of};
 pub use running::move_all;
 pub use stage::{NodePlan, RangePlan, Stage};
