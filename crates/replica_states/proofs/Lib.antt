@@ -1,2 +1,3 @@
 pub mod OneRange
 pub mod RangeLemmas
+pub mod RestartLemmas

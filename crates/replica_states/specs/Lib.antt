@@ -1,1 +1,2 @@
 pub mod RangeTies
+pub mod Restarts
