@@ -1,5 +1,6 @@
 pub mod BeginLemmas
 pub mod EndingLemmas
+pub mod FirstLemmas
 pub mod FlightLemmas
 pub mod LineLemmas
 pub mod NodeAt

@@ -6,6 +6,7 @@ mod attempts;
 mod beginnings;
 mod ended_txns;
 mod endings;
+mod first_state;
 mod hints;
 mod lines;
 mod mails;
