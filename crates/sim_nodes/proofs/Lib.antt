@@ -1,3 +1,4 @@
+pub mod ApplyLemmas
 pub mod BeginLemmas
 pub mod EndingLemmas
 pub mod FirstLemmas
@@ -5,6 +6,7 @@ pub mod FlightLemmas
 pub mod LineLemmas
 pub mod NodeAt
 pub mod QuietLemmas
+pub mod RangeLemmas
 pub mod ReplicaThere
 pub mod ShowLemmas
 pub mod Written
