@@ -38,9 +38,11 @@ preferred policies.Nearest near = near
 preferred _ near = record { 0 = 0 }
 
 -- Then those of the gateway's region, the one that the hint names, and all as they are listed.
-abbrev pub route : Policy → (gateway : NodeId) → (near : NodeSet) → (hint : NodeId) → (named : Option NodeId) → List NodeId → List NodeId
+abbrev pub route : Policy → (gateway : NodeId) → NodeSet → (hint : NodeId) → Option NodeId → List NodeId → List NodeId
 route policy gateway near hint named replicas =
-    named_first named replicas ++ own_first policy gateway replicas ++ asking_order replicas (preferred policy near) hint
+    named_first named replicas
+    ++ own_first policy gateway replicas
+    ++ asking_order replicas (preferred policy near) hint
 
 -- The node of this number stands in the region.
 abbrev pub stands_in : (region : List ℕ) → NodeId → NodeInfo → Bool

@@ -75,6 +75,13 @@ impl Hints {
         Ok(())
     }
 
+    /// How many ranges there are.
+    pub fn len(&self) -> usize
+        ensures { result ≡ length self.now }
+    {
+        self.by_place.len()
+    }
+
     /// The hint of the range at a place.
     pub fn at(&self, place: usize) -> Hint
         requires { place < length self.now }
@@ -94,7 +101,9 @@ impl Hints {
     /// A reply has told a lease: it counts where its sequence is higher.
     pub fn learn_told(&mut self, place: usize, told: Hint)
         requires { place < length self.old }
-        ensures { (old : Hint) → slice_get self.old place ≡ Some old → self.new ≡ slice_set self.old place (newer_hint told old) }
+        ensures count { length self.new ≡ length self.old }
+        ensures hint { (old : Hint) → slice_get self.old place ≡ Some old →
+            self.new ≡ slice_set self.old place (newer_hint told old) }
     {
         self.by_place[place] = told.unless_older(self.by_place[place]);
     }

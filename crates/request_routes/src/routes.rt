@@ -5,7 +5,8 @@ ghost use Rattle.std.specs.List.{list_any};
 ghost use Rattle.closed_ts.specs.Routing.{first_unasked, is_member, is_node};
 ghost use Rattle.mr_base.specs.Nodes.{IsMember, IsNode};
 ghost use Rattle.mr_base.specs.declared.ids.NodeId.{NodeId};
-ghost use Rattle.request_routes.specs.Routes.{named_first, own_first, policy_of, preferred, read_policy, route, stands_in};
+ghost use Rattle.request_routes.specs.Routes.{named_first, own_first, policy_of, preferred, read_policy, route};
+ghost use Rattle.request_routes.specs.Routes.{stands_in};
 
 use crate::progress::Progress;
 use closed_ts::next_target;

@@ -1,7 +1,9 @@
+pub mod BeginLemmas
 pub mod EndingLemmas
 pub mod FlightLemmas
 pub mod LineLemmas
 pub mod NodeAt
 pub mod QuietLemmas
 pub mod ReplicaThere
+pub mod ShowLemmas
 pub mod Written

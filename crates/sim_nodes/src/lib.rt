@@ -3,11 +3,15 @@
 #![tactic(auto)]
 
 mod attempts;
+mod beginnings;
 mod ended_txns;
 mod endings;
+mod hints;
 mod lines;
 mod mails;
 mod nodes;
+mod shows;
 mod state;
 
+pub use beginnings::Begun;
 pub use nodes::Nodes;
