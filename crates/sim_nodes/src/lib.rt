@@ -2,6 +2,7 @@
 //! journal of what they do.
 #![tactic(auto)]
 
+mod applying;
 mod attempts;
 mod beginnings;
 mod ended_txns;
