@@ -3,6 +3,7 @@
 #![tactic(auto)]
 
 mod applying;
+mod acts;
 mod attempts;
 mod beginnings;
 mod ended_txns;
