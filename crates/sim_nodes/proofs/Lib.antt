@@ -1,6 +1,7 @@
 pub mod ApplyLemmas
 pub mod BeginLemmas
 pub mod EndingLemmas
+pub mod FirstLemmas
 pub mod FlightLemmas
 pub mod LineLemmas
 pub mod NodeAt

@@ -3,10 +3,12 @@
 #![tactic(auto)]
 
 mod applying;
+mod acts;
 mod attempts;
 mod beginnings;
 mod ended_txns;
 mod endings;
+mod first_state;
 mod hints;
 mod lines;
 mod mails;
