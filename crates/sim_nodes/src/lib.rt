@@ -11,6 +11,7 @@ mod hints;
 mod lines;
 mod mails;
 mod nodes;
+mod serving;
 mod shows;
 mod state;
 
