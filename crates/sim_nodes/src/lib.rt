@@ -13,6 +13,7 @@ mod hints;
 mod lines;
 mod mails;
 mod nodes;
+mod serving;
 mod shows;
 mod state;
 
