@@ -9,6 +9,7 @@ mod hints;
 mod lines;
 mod mails;
 mod nodes;
+mod readers;
 mod shows;
 mod state;
 
