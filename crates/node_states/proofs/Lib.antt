@@ -1,3 +1,4 @@
+pub mod FirstLemmas
 pub mod AppendLemmas
 pub mod FrontLemmas
 pub mod LineLemmas

@@ -13,6 +13,7 @@ use Rattle.mr_base.specs.declared.nodes.NodeSet.{NodeSet}
 use Rattle.mr_base.specs.declared.timestamps.Reading.{Reading}
 use Rattle.mr_base.specs.declared.timestamps.Ts.{Ts}
 use Rattle.node_states.proofs.RunningLemmas.{number_at}
+use Rattle.node_states.specs.Moves.{with_kept}
 use Rattle.node_states.specs.Stage.{AreNumbered}
 use Rattle.node_states.specs.Ties.{AreNodesTied, IsAmong, IsNodeTied, NodesTied}
 use Rattle.node_states.specs.declared.states.NodeState.{NodeState}
@@ -23,9 +24,6 @@ use Rattle.run_words.specs.Nodes.{boot, is_running}
 use Rattle.run_words.specs.Setup.{Setup}
 
 -- What one node's clock keeps is changed.
-
-abbrev pub with_kept : Reading → NodeState → NodeState
-with_kept r node = record node { clock = record node.clock { kept = r } }
 
 -- an element that is set, and the others
 at_set : (nodes : List NodeState) (i k : ℕ) (v d : NodeState) (P : NodeState → Type 0) → k < length (set nodes i v) → (i ≡ k → P v) → (k ≢ i → P (get_or nodes k d))
@@ -149,3 +147,22 @@ taken_keeps setup h nodes running i d m sent tied l at e =
     kept_keeps (phys setup h) (seen setup h) (seen setup (Made (entry.Taken m) ∷ h)) (boot setup h) (is_running setup h) nodes running i (seen_with sent.clock (get_or nodes i d).clock.kept) d tied l
     (ap (seen setup (Made (entry.Taken m) ∷ h)) at ∙ taken_gives setup h m sent e ∙ ap (seen_with sent.clock) (sym ((tied.each i d l).kept ∙ ap (seen setup h) at)))
     (λ n ne. taken_sees setup h m sent n e (subst (λ (k : NodeId). n.0 ≢ k.0) at ne))
+
+-- ---- the node of a number
+
+-- the node at the place of a number has that number
+pub node_at_place : (nodes : List NodeState) (n : NodeId) (place : ℕ) (d : NodeState) → AreNumbered 0 (map (λ node. node.id.0) nodes) → place + 1 ≡ n.0 → place < length nodes
+    → (get_or nodes place d).id ≡ n
+node_at_place nodes n place d a e l =
+    let at : (get_or nodes place d).id.0 ≡ 0 + place + 1 = number_at 0 nodes place d a l in
+    let same : (get_or nodes place d).id.0 ≡ n.0 = grind (arith, at, e) in
+    ap (λ (k : ℕ). let m : NodeId = record { 0 = k } in m) same
+
+-- what is kept there is what the words say of that node
+pub node_tied_at : (setup : Setup) (h : History) (nodes : List NodeState) (running : NodeSet) (n : NodeId) (place : ℕ) (d : NodeState) → NodesTied setup h nodes running
+    → place + 1 ≡ n.0 → place < length nodes
+    → ((get_or nodes place d).clock.physical ≡ phys setup h n) × ((get_or nodes place d).clock.kept ≡ seen setup h n) × ((get_or nodes place d).boot ≡ boot setup h n) × ((get_or nodes place d).runs ≡ is_running setup h n)
+node_tied_at setup h nodes running n place d t e l =
+    let i : (get_or nodes place d).id ≡ n = node_at_place nodes n place d t.numbered e l in
+    let at : IsNodeTied (phys setup h) (seen setup h) (boot setup h) (is_running setup h) (get_or nodes place d) = t.each place d l in
+    (at.physical ∙ ap (phys setup h) i, at.kept ∙ ap (seen setup h) i, at.boot_is ∙ ap (boot setup h) i, at.runs_is ∙ ap (is_running setup h) i)

@@ -4,10 +4,15 @@ use Rattle.journal.specs.declared.events.Event.TheVariants as events
 use Rattle.journal.specs.declared.events.Event.{Event}
 use Rattle.mr_base.specs.declared.ids.NodeId.{NodeId}
 use Rattle.mr_base.specs.declared.timestamps.Reading.{Reading}
+use Rattle.node_states.specs.declared.stage.NodePlan.{NodePlan}
 use Rattle.node_states.specs.declared.moves.Move.TheVariants as moves
 use Rattle.node_states.specs.declared.moves.Move.{Move}
 use Rattle.node_states.specs.declared.states.NodeState.{NodeState}
 use Rattle.run_words.specs.Clocks.{seen_with}
+
+-- A node of a stage runs, at its first boot, and its clock has seen nothing.
+abbrev pub first_node : NodePlan → NodeState
+first_node plan = record { id = plan.info.id; clock = record { physical = plan.clock; kept = nothing }; boot = 1; runs = true }
 
 -- What lines do to nodes: ticks move physical clocks, a node that starts is at its next boot, and its clock keeps
 -- nothing. (This project's profile.)
@@ -27,6 +32,10 @@ stopped node = record node { runs = false }
 
 abbrev pub started : NodeState → NodeState
 started node = record node { clock = record node.clock { kept = nothing }; boot = node.boot + 1; runs = true }
+
+-- A clock keeps another reading.
+abbrev pub with_kept : Reading → NodeState → NodeState
+with_kept r node = record node { clock = record node.clock { kept = r } }
 
 -- The node that takes a message takes in the clock that came with it.
 abbrev pub heard : Option Reading → NodeState → NodeState

@@ -2,9 +2,13 @@
 //! journal of what they do.
 #![tactic(auto)]
 
+mod applying;
+mod acts;
 mod attempts;
+mod beginnings;
 mod ended_txns;
 mod endings;
+mod first_state;
 mod hints;
 mod lines;
 mod mails;
@@ -13,4 +17,5 @@ mod readers;
 mod shows;
 mod state;
 
+pub use beginnings::Begun;
 pub use nodes::Nodes;

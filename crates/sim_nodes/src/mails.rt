@@ -4,17 +4,15 @@ ghost use Rattle.std.specs.Prelude.{◌≡◌, ◌≢◌, ◌∷◌, ◌+◌, []
 ghost use Rattle.journal.specs.declared.entries.JournalEntry.TheVariants as made;
 ghost use Rattle.journal.specs.declared.entries.Shown.TheVariants as shown;
 ghost use Rattle.journal.specs.declared.events.Event.TheVariants as events;
-ghost use Rattle.run_laws.specs.Messages.{IsAllowedAt, IsInFlight};
+ghost use Rattle.node_states.specs.Placed.{IsRequestPlaced};
+ghost use Rattle.run_laws.specs.Messages.{IsInFlight};
 ghost use Rattle.run_laws.specs.Order.{IsSendDue};
 ghost use Rattle.run_laws.specs.OrderEvents.{IsFirstAt};
-ghost use Rattle.run_laws.specs.Places.{IsInOwnStep, stepping};
-ghost use Rattle.run_words.specs.Askers.{asker_of, range_asked};
+ghost use Rattle.run_words.specs.Askers.{range_asked};
 ghost use Rattle.run_words.specs.Clocks.{reading};
 ghost use Rattle.run_words.specs.History.{Made};
 ghost use Rattle.run_words.specs.Logs.{log_of};
 ghost use Rattle.run_words.specs.Messages.{messages};
-ghost use Rattle.run_words.specs.Ranges.{HoldsReplica};
-ghost use Rattle.run_words.specs.Steps.{event_of};
 ghost use Rattle.sim_nodes.specs.Tied.{HasMade, IsThere, IsTied, IsUnrecorded, past, the_setup};
 
 use crate::state::State;
@@ -25,7 +23,7 @@ use std::alloc::Global;
 
 impl State {
     /// A message in flight is lost.
-    pub fn drop_message(&mut self, id: MsgId) -> Result<(), Memory>
+    pub fn lose_message(&mut self, id: MsgId) -> Result<(), Memory>
         requires tied { IsTied self.old }
         requires flying { IsInFlight (past self.old) id }
         requires line { IsFirstAt (past self.old) (events.Drop id) }
@@ -50,12 +48,9 @@ impl State {
         requires tied { IsTied self.old }
         requires there { IsThere self.old.stage from }
         requires due { IsSendDue (past self.old) }
-        requires place { IsInOwnStep (past self.old) (asker_of request) }
-        requires allowed { IsAllowedAt (event_of (past self.old)) request }
-        requires sender { stepping (past self.old) ≡ Some from }
-        requires receiver { HoldsReplica (the_setup self.old) (past self.old) to (range_asked request) }
+        requires placed { IsRequestPlaced (the_setup self.old) (past self.old) from to
+            (Some (reading (the_setup self.old) (past self.old) from)) request }
         requires begun { log_of (the_setup self.old) (past self.old) (range_asked request) ≢ [] }
-        requires other { to ≢ from }
         ensures number { IfOk result (λ id. id.0 ≡ messages (the_setup self.old) (past self.old) + 1) }
         ensures made { IfOk result (λ id. HasMade (Made (made.Sent id from to
             (Some (reading (the_setup self.old) (past self.old) from)) (shown.Request request)) ∷ []) self.old self.new) }

@@ -1,7 +1,7 @@
 use Rattle.std.proofs.Common.{refl}
 use Rattle.sim_nodes.proofs.FlightLemmas.{dropped_keeps}
 use Rattle.sim_nodes.proofs.Written.{made_entry}
-use Rattle.sim_nodes.proofs.state.State.drop_message.Goals as goal
+use Rattle.sim_nodes.proofs.state.State.lose_message.Goals as goal
 
 pub returns-clause-made : goal.returns-clause-made
 returns-clause-made c =
