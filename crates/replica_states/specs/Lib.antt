@@ -1,2 +1,3 @@
+pub mod FirstRange
 pub mod RangeTies
 pub mod Restarts

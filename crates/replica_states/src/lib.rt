@@ -2,6 +2,8 @@
 //! a node's start does to its replicas.
 #![tactic(auto)]
 
+mod making;
 mod restarts;
 
 pub use restarts::restart_servers;
+pub use making::first_range;
