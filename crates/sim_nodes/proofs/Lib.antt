@@ -4,6 +4,7 @@ pub mod EndingLemmas
 pub mod FirstLemmas
 pub mod FlightLemmas
 pub mod LineLemmas
+pub mod MakingLemmas
 pub mod NodeAt
 pub mod QuietLemmas
 pub mod RangeLemmas
