@@ -4,4 +4,4 @@
 
 mod restarts;
 
-pub use restarts::restart_servers;
+pub use restarts::{restart_moved, restart_servers};
