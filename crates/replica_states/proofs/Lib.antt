@@ -1,3 +1,4 @@
 pub mod OneRange
 pub mod RangeLemmas
 pub mod RestartLemmas
+pub mod RestartTies
