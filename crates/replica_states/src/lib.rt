@@ -2,6 +2,8 @@
 //! a node's start does to its replicas.
 #![tactic(auto)]
 
+mod making;
 mod restarts;
 
+pub use making::first_range;
 pub use restarts::{restart_moved, restart_servers};

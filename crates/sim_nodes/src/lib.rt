@@ -2,8 +2,8 @@
 //! journal of what they do.
 #![tactic(auto)]
 
-mod applying;
 mod acts;
+mod applying;
 mod attempts;
 mod beginnings;
 mod ended_txns;
@@ -13,6 +13,8 @@ mod hints;
 mod lines;
 mod mails;
 mod nodes;
+mod readers;
+mod serving;
 mod shows;
 mod state;
 
