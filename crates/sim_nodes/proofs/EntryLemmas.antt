@@ -1,6 +1,7 @@
 -- The entries of a log past so many, as they are copied one by one.
 use Rattle.std.proofs.Common.{◌≡◌, ℕ, suc, ◌<◌, ◌+◌, ◌-◌, ◌≤◌, List, [], ◌∷◌, ◌++◌, length, take, drop, get_or, map, refl, sym, ap, ◌∙◌, subst, arith, Some, drop-cons, length-drop, length-take}
-use Rattle.std.specs.Prelude.{reverse, slice_get}
+use Rattle.std.proofs.Common.{None}
+use Rattle.std.specs.Prelude.{MatchOption, Option, reverse, slice_get}
 use Rattle.std.proofs.lemmas.List.{reverse-append}
 use Rattle.std.proofs.lemmas.Option.{get_or_from_slice_get}
 use Rattle.journal.specs.declared.entries.JournalEntry.{JournalEntry}
@@ -47,3 +48,9 @@ none_copied j before es = let z : before - before ≡ 0 = omega arith in rw z re
 
 pub all_copied : (es : List Entry) → first_entries (length es) es ≡ es
 all_copied es = let z : length es - length es ≡ 0 = omega arith in rw z refl
+
+-- what was served stands behind what was appended
+pub with_served : (served : Option JournalEntry) (all items : List JournalEntry) (shown appended : History) → MatchOption served (shown ≡ []) (λ e. shown ≡ Made e ∷ [])
+    → MatchOption served (all ≡ items) (λ e. all ≡ items ++ e ∷ []) → made_all items ≡ appended → made_all all ≡ shown ++ appended
+with_served None all items shown appended s a e = rw (s, a) e
+with_served (Some x) all items shown appended s a e = rw (s, a) (made_more items x ∙ ap (λ (h : History). Made x ∷ h) e)
