@@ -1,12 +1,14 @@
 pub mod ApplyLemmas
 pub mod BeginLemmas
 pub mod EndingLemmas
+pub mod EntryLemmas
 pub mod FirstLemmas
 pub mod FlightLemmas
 pub mod LineLemmas
 pub mod MakingLemmas
 pub mod NodeAt
 pub mod QuietLemmas
+pub mod Quorum
 pub mod RangeLemmas
 pub mod ReplicaThere
 pub mod ShowLemmas

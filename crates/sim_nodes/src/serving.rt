@@ -1,6 +1,6 @@
 //! A request is handled by the server of its range at a node.
 
-ghost use Rattle.std.specs.Prelude.{◌≡◌, ◌≢◌, ◌≤◌, ◌-◌, ◌+◌, ◌∷◌, [], Contains, IfOk, MatchOption, OnOk, OnErr, Some, length, take};
+ghost use Rattle.std.specs.Prelude.{◌≡◌, ◌≢◌, ◌≤◌, ◌-◌, ◌+◌, ◌∷◌, ◌++◌, [], Contains, IfOk, MatchOption, OnOk, OnErr, Some, length, take};
 ghost use Rattle.journal.specs.declared.entries.JournalEntry.TheVariants as made;
 ghost use Rattle.node_states.specs.Appends.{appends};
 ghost use Rattle.range_replicas.specs.RangeValue.{replicas};
@@ -50,14 +50,31 @@ pub fn answer_at(
     let before = range.log().len();
     let count = range.applied(place);
     let handled = range.handle(alloc, place, q, clock, settings, running)?;
-    let mut entries = entries_past(alloc, number, range.log(), before)?;
-    if let Some(served) = served_entry(alloc, node, q, &handled, count)? {
-        entries.push(served)?;
-    }
+    let appended = entries_past(alloc, number, range.log(), before)?;
+    let served = served_entry(alloc, node, q, &handled, count)?;
+    let entries = with_served(appended, served)?;
     Ok(Answered {
         reply: handled.reply,
         entries,
     })
+}
+
+/// Entries, and behind them the one of what was served, if anything was.
+fn with_served(
+    entries: Vec<JournalEntry>,
+    served: Option<JournalEntry>,
+) -> Result<Vec<JournalEntry>, Memory>
+    ensures { IfOk result (λ all. MatchOption served (all.items ≡ entries.items)
+        (λ e. all.items ≡ entries.items ++ e ∷ [])) }
+{
+    match served {
+        None => Ok(entries),
+        Some(served) => {
+            let mut all = entries;
+            all.push(served)?;
+            Ok(all)
+        }
+    }
 }
 
 /// The entries of a log past so many, as the journal has them.
