@@ -12,7 +12,7 @@ mod states;
 pub use bodies::{range_asked, sent_entry};
 pub use first::first_nodes;
 pub use moves::{Move, can_not_move, hear, move_of};
-pub use running::move_all;
+pub use running::{move_all, running_nodes};
 pub use stage::{NodePlan, RangePlan, Stage};
 pub use starts::{limit_at, next_reading, start_at};
 pub use states::NodeState;

@@ -1,2 +1,4 @@
+pub mod MakingLemmas
 pub mod OneRange
 pub mod RangeLemmas
+pub mod RestartLemmas

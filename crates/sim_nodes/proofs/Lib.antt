@@ -2,6 +2,7 @@ pub mod ApplyLemmas
 pub mod BeginLemmas
 pub mod EndingLemmas
 pub mod EntryLemmas
+pub mod FirstLemmas
 pub mod FlightLemmas
 pub mod LineLemmas
 pub mod NodeAt

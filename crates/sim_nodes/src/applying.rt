@@ -12,6 +12,7 @@ ghost use Rattle.run_words.specs.Ranges.{HoldsReplica};
 ghost use Rattle.sim_nodes.specs.RangeAt.{applies, range_at};
 ghost use Rattle.sim_nodes.specs.Tied.{HasMade, IsTied, IsUnrecorded, past, the_setup};
 
+use crate::hints::learn_leases;
 use crate::state::State;
 use journal::JournalEntry;
 use mr_base::{Memory, NodeId, RangeId};
@@ -58,7 +59,10 @@ impl State {
         ensures err { OnErr result (IsUnrecorded self.old self.new) }
     {
         self.ledger.reserve(1)?;
-        self.ranges[(number.0 - 1) as usize].apply(place, upto)?;
+        let range = &mut self.ranges[(number.0 - 1) as usize];
+        let applied = range.applied(place);
+        range.apply(place, upto)?;
+        learn_leases(self.hints.as_mut_slice(), node, range, applied, upto);
         self.ledger.write(JournalEntry::Apply {
             node,
             range: number,

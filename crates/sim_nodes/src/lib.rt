@@ -2,15 +2,18 @@
 //! journal of what they do.
 #![tactic(auto)]
 
+mod acts;
 mod applying;
 mod attempts;
 mod beginnings;
 mod ended_txns;
 mod endings;
+mod first_state;
 mod hints;
 mod lines;
 mod mails;
 mod nodes;
+mod readers;
 mod serving;
 mod shows;
 mod state;

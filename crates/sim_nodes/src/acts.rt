@@ -1,0 +1,80 @@
+//! Lines and beginnings, as the layers above ask for them.
+
+ghost use Rattle.std.specs.Prelude.{◌≡◌, ◌+◌, ◌∷◌, [], IfOk, OnErr, OnOk, Some, false};
+ghost use Rattle.journal.specs.declared.entries.JournalEntry.TheVariants as made;
+ghost use Rattle.journal.specs.declared.events.Event.TheVariants as events;
+ghost use Rattle.node_states.specs.Stage.{IsStage};
+ghost use Rattle.run_laws.specs.Order.{IsBeginDue};
+ghost use Rattle.run_laws.specs.OrderEvents.{IsInStep, IsLineDue, NamesNode};
+ghost use Rattle.run_words.specs.Askers.{own_txn};
+ghost use Rattle.run_words.specs.History.{Made, Ran, Ticked};
+ghost use Rattle.run_words.specs.Steps.{event_of, has_ticked};
+ghost use Rattle.run_words.specs.Transactions.{attempts};
+ghost use Rattle.sim_nodes.specs.NodesValue.{ended_as, setup, with_items};
+ghost use Rattle.sim_nodes.specs.Tied.{IsThere};
+
+use crate::beginnings::Begun;
+use crate::nodes::Nodes;
+use crate::state::State;
+use mr_base::{AttemptId, Memory, NodeId, TxnId};
+use node_states::Stage;
+use range_log::RetryCause;
+use std::alloc::Global;
+
+impl Nodes {
+    /// The nodes of a stage, which have done nothing.
+    pub fn new(alloc: Global, stage: Stage) -> Result<Nodes, Memory>
+        requires { IsStage stage }
+        ensures { IfOk result (λ n. n ≡ record { stage = stage; history = []; ended = false }) }
+    {
+        let state = State::new(alloc, stage)?;
+        Ok(Nodes {
+            alloc,
+            state,
+            ended: false,
+        })
+    }
+
+    /// Ticks all clocks inside a `settle` line, once.
+    pub fn ticked(&mut self, ms: u64) -> Result<(), Memory>
+        requires open { self.old.ended ≡ false }
+        requires line { event_of self.old.history ≡ Some (events.Settle ms) }
+        requires once { has_ticked self.old.history ≡ false }
+        ensures made { OnOk result (self.new ≡ with_items (Ticked ms ∷ []) self.old) }
+        ensures err { OnErr result (self.new ≡ ended_as self.old) }
+    {
+        self.ended = true;
+        self.state.ticked(ms)?;
+        self.ended = false;
+        Ok(())
+    }
+
+    /// A transaction begins at its gateway, which runs.
+    pub fn begin_txn(&mut self, txn: TxnId, gateway: NodeId) -> Result<Begun, Memory>
+        requires open { self.old.ended ≡ false }
+        requires there { IsThere self.old.stage gateway }
+        requires due { IsBeginDue (setup self.old) self.old.history txn gateway }
+        ensures made { IfOk result (λ b. self.new ≡ with_items (Made (made.Begin txn b.attempt gateway b.start b.limit) ∷ []) self.old) }
+        ensures err { OnErr result (self.new ≡ ended_as self.old) }
+    {
+        self.ended = true;
+        let begun = self.state.begin_txn(txn, gateway)?;
+        self.ended = false;
+        Ok(begun)
+    }
+
+    /// A transaction is tried again, by a new attempt.
+    pub fn retry(&mut self, txn: TxnId, cause: RetryCause) -> Result<AttemptId, Memory>
+        requires open { self.old.ended ≡ false }
+        requires stepping { IsInStep self.old.history }
+        requires own { own_txn self.old.history ≡ Some txn }
+        ensures number { IfOk result (λ a. a.0 ≡ attempts (setup self.old) self.old.history + 1) }
+        ensures made { IfOk result (λ a. self.new ≡ with_items (Made (made.Retry txn a cause) ∷ []) self.old) }
+        ensures err { OnErr result (self.new ≡ ended_as self.old) }
+    {
+        self.ended = true;
+        let attempt = self.state.retry(txn, cause)?;
+        self.ended = false;
+        Ok(attempt)
+    }
+}
