@@ -1,9 +1,11 @@
+pub mod AppendsKeep
 pub mod ApplyLemmas
 pub mod BeginLemmas
 pub mod EndingLemmas
 pub mod EntryLemmas
 pub mod FirstLemmas
 pub mod FlightLemmas
+pub mod HandledKeep
 pub mod LineLemmas
 pub mod MakingLemmas
 pub mod NodeAt
