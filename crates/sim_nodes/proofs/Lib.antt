@@ -7,6 +7,7 @@ pub mod LineLemmas
 pub mod NodeAt
 pub mod QuietLemmas
 pub mod RangeLemmas
+pub mod ReaderLemmas
 pub mod ReplicaThere
 pub mod ShowLemmas
 pub mod Written
