@@ -10,6 +10,7 @@ ghost use Rattle.range_log.specs.declared.entries.Lease.{Lease};
 ghost use Rattle.run_words.specs.Clocks.{reading};
 ghost use Rattle.run_words.specs.History.{Made};
 ghost use Rattle.run_words.specs.Logs.{log_of};
+ghost use Rattle.run_words.specs.Messages.{flight};
 ghost use Rattle.run_words.specs.Nodes.{boot, is_running};
 ghost use Rattle.sim_nodes.specs.Tied.{HasMade, IsThere, IsTied, IsUnrecorded, past, the_setup};
 
@@ -18,6 +19,7 @@ use journal::JournalEntry;
 use mr_base::{Memory, NodeId, RangeId};
 use node_states::NodeState;
 use range_replicas::ReplicatedRange;
+use std::alloc::Global;
 
 impl State {
     /// Shows a node: its reading, whether it runs, and at which boot it is.
@@ -34,6 +36,19 @@ impl State {
         self.ledger.reserve(1)?;
         let shown = shown_node(&self.nodes[(node.0 - 1) as usize], node);
         self.ledger.write(shown);
+        Ok(())
+    }
+
+    /// Shows the messages in flight.
+    pub fn show_flight(&mut self, alloc: Global) -> Result<(), Memory>
+        requires tied { IsTied self.old }
+        requires due { IsFirstAt (past self.old) events.ShowFlight }
+        ensures made { OnOk result (HasMade (Made (made.ShowFlight (flight (past self.old))) ∷ []) self.old self.new) }
+        ensures err { OnErr result (IsUnrecorded self.old self.new) }
+    {
+        let messages = self.flight.numbers(alloc)?;
+        self.ledger.reserve(1)?;
+        self.ledger.write(JournalEntry::ShowFlight { messages });
         Ok(())
     }
 
