@@ -12,6 +12,7 @@ pub mod NodeAt
 pub mod QuietLemmas
 pub mod Quorum
 pub mod RangeLemmas
+pub mod ReaderLemmas
 pub mod ReplicaThere
 pub mod ShowLemmas
 pub mod Written
