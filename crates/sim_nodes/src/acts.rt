@@ -16,6 +16,7 @@ ghost use Rattle.sim_nodes.specs.Tied.{IsThere};
 use crate::beginnings::Begun;
 use crate::nodes::Nodes;
 use crate::state::State;
+use journal::Event;
 use mr_base::{AttemptId, Memory, NodeId, TxnId};
 use node_states::Stage;
 use range_log::RetryCause;
@@ -33,6 +34,20 @@ impl Nodes {
             state,
             ended: false,
         })
+    }
+
+    /// Runs a line: clocks tick, a node stops or starts. What else the line asks for is done by the calls behind it.
+    pub fn line(&mut self, number: u32, event: Event) -> Result<(), Memory>
+        requires open { self.old.ended ≡ false }
+        requires due { IsLineDue (event_of self.old.history) (has_ticked self.old.history) }
+        requires names { NamesNode (setup self.old) event }
+        ensures made { OnOk result (self.new ≡ with_items (Ran number event ∷ []) self.old) }
+        ensures err { OnErr result (self.new ≡ ended_as self.old) }
+    {
+        self.ended = true;
+        self.state.line(number, event)?;
+        self.ended = false;
+        Ok(())
     }
 
     /// Ticks all clocks inside a `settle` line, once.
