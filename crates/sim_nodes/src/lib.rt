@@ -12,6 +12,7 @@ mod first_state;
 mod hints;
 mod lines;
 mod mails;
+mod making;
 mod nodes;
 mod readers;
 mod serving;
