@@ -9,10 +9,12 @@ pub mod HandledKeep
 pub mod LineLemmas
 pub mod MakingLemmas
 pub mod NodeAt
+pub mod NoRangeLemmas
 pub mod QuietLemmas
 pub mod Quorum
 pub mod RangeLemmas
 pub mod ReaderLemmas
 pub mod ReplicaThere
 pub mod ShowLemmas
+pub mod WayLemmas
 pub mod Written
