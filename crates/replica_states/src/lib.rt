@@ -5,5 +5,5 @@
 mod making;
 mod restarts;
 
-pub use restarts::restart_servers;
 pub use making::first_range;
+pub use restarts::{restart_moved, restart_servers};

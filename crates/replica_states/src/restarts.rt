@@ -2,9 +2,10 @@
 
 ghost use Rattle.std.specs.Prelude.{◌≡◌, All, map};
 ghost use Rattle.range_replicas.specs.Sound.{IsSound};
-ghost use Rattle.replica_states.specs.Restarts.{AreBefore, restarted};
+ghost use Rattle.replica_states.specs.Restarts.{AreBefore, IsAhead, moved_ranges, restarted};
 
 use mr_base::NodeId;
+use node_states::{Move, NodeState};
 use range_replicas::ReplicatedRange;
 
 /// The servers of all replicas at a node begin anew, at its boot.
@@ -28,5 +29,18 @@ fn restart_server(range: &mut ReplicatedRange, node: NodeId, boot: u32)
 {
     if let Some(place) = range.place_of(node) {
         range.restart(place, boot);
+    }
+}
+
+/// What a line does to the servers: those of a node that starts begin anew. The nodes are moved already.
+pub fn restart_moved(ranges: &mut [ReplicatedRange], nodes: &[NodeState], moving: Move)
+    requires sound { All IsSound ranges.old }
+    requires ahead { IsAhead moving nodes.now ranges.old }
+    ensures servers { ranges.new ≡ moved_ranges moving nodes.now ranges.old }
+    ensures sound { All IsSound ranges.new }
+{
+    if let Move::Start(node) = moving {
+        let boot = nodes[(node.0 - 1) as usize].boot;
+        restart_servers(ranges, node, boot);
     }
 }

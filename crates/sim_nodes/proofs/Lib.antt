@@ -8,10 +8,12 @@ pub mod FlightLemmas
 pub mod HandledKeep
 pub mod HereKeep
 pub mod LineLemmas
+pub mod MakingLemmas
 pub mod NodeAt
 pub mod QuietLemmas
 pub mod Quorum
 pub mod RangeLemmas
+pub mod ReaderLemmas
 pub mod ReplicaThere
 pub mod ShowLemmas
 pub mod Written

@@ -13,11 +13,14 @@ mod handling;
 mod hints;
 mod lines;
 mod mails;
+mod making;
+mod network;
 mod nodes;
 mod readers;
 mod serving;
 mod shows;
 mod state;
+mod views;
 
 pub use beginnings::Begun;
 pub use nodes::Nodes;
