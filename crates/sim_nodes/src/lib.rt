@@ -9,6 +9,7 @@ mod beginnings;
 mod ended_txns;
 mod endings;
 mod first_state;
+mod handling;
 mod hints;
 mod lines;
 mod mails;
