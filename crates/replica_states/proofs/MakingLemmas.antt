@@ -1,7 +1,7 @@
-use Rattle.std.proofs.Common.{◌≡◌, ◌≢◌, ◌<◌, ◌≤◌, ◌+◌, ◌-◌, ◌∙◌, ◌⊎◌, ℕ, zero, suc, Bool, true, false, List, [], ◌∷◌, ◌++◌, Option, None, Some, inl, inr, ⊎_elim, refl, sym, ap, ap₂, subst, length, map, take, get_or, arith, max}
-use Rattle.std.specs.Prelude.{◌==◌, ◌||◌, IsSome, if◌then◌else◌, unwrap_or, slice_get}
+use Rattle.std.proofs.Common.{◌≡◌, ◌≢◌, ◌<◌, ◌≤◌, ◌+◌, ◌∙◌, ◌⊎◌, ℕ, suc, Bool, true, false, List, [], ◌∷◌, ◌++◌, Option, None, Some, inl, inr, refl, sym, ap, ap₂, subst, length, map, take, get_or, arith, max}
+use Rattle.std.specs.Prelude.{◌==◌, ◌||◌, if◌then◌else◌}
 use Rattle.std.specs.List.{All}
-use Rattle.std.proofs.lemmas.List.{get_or-map, length-map, length-append, map-append}
+use Rattle.std.proofs.lemmas.List.{length-append, map-append}
 use Rattle.std.proofs.lemmas.List.Elements.{All-push}
 use Rattle.std.proofs.Math.Seq.{take-suc}
 use Rattle.journal.specs.declared.entries.JournalEntry.TheVariants as entry
@@ -9,9 +9,7 @@ use Rattle.journal.specs.declared.events.Event.TheVariants as events
 use Rattle.journal.specs.declared.events.Event.{Event}
 use Rattle.mr_base.specs.declared.ids.NodeId.{NodeId}
 use Rattle.mr_base.specs.declared.ids.RangeId.{RangeId}
-use Rattle.node_states.proofs.NodeLemmas.{itself}
 use Rattle.node_states.specs.Stage.{AreNumbered}
-use Rattle.range_log.specs.Facts.{lease_of}
 use Rattle.range_log.specs.declared.entries.Entry.TheVariants as log
 use Rattle.range_log.specs.declared.entries.Entry.{Entry}
 use Rattle.range_log.specs.declared.entries.Lease.{Lease}
@@ -19,9 +17,9 @@ use Rattle.range_replicas.specs.RangeValue.{RangeValue}
 use Rattle.range_replicas.specs.Sound.{IsSound}
 use Rattle.range_server.specs.declared.standing.Standing.{Standing}
 use Rattle.replica_states.proofs.OneRange.{range_number_at}
-use Rattle.replica_states.specs.Making.{AreMade, AreUnmade, IsMaking, IsReachedTo}
-use Rattle.replica_states.specs.RangeTies.{AreRangesTied, IsRangeTied, IsReplicaTied, RangesTied, planned}
-use Rattle.run_laws.specs.RangeLines.{IsBehind, reached}
+use Rattle.replica_states.specs.Making.{AreMade, IsMaking, IsReachedTo}
+use Rattle.replica_states.specs.RangeTies.{IsRangeTied, RangesTied, planned}
+use Rattle.run_laws.specs.RangeLines.{IsBehind}
 use Rattle.run_words.specs.History.{History, Item, Made}
 use Rattle.run_words.specs.Logs.{applied, actor, is_node_of, log_of, makes_ranges}
 use Rattle.run_words.specs.Nodes.{boot}

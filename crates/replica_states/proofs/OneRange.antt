@@ -1,6 +1,6 @@
 -- One range is changed at one replica.
-use Rattle.std.proofs.Common.{◌≡◌, ◌≢◌, ℕ, zero, suc, ◌<◌, ◌+◌, ◌≤◌, Bool, true, false, List, [], ◌∷◌, ◌++◌, length, take, get_or, set, map, refl, sym, ap, ◌∙◌, subst, arith, Some, None, inl, inr, ⊎_elim}
-use Rattle.std.specs.Prelude.{◌⊎◌, ◌==◌, AllPairs, slice_index_or}
+use Rattle.std.proofs.Common.{◌≡◌, ◌≢◌, ℕ, zero, suc, ◌<◌, ◌+◌, ◌≤◌, List, [], ◌∷◌, length, take, get_or, set, map, refl, sym, ap, ◌∙◌, subst, arith, ⊎_elim}
+use Rattle.std.specs.Prelude.{◌⊎◌, AllPairs}
 use Rattle.std.specs.List.{All}
 use Rattle.std.proofs.lemmas.List.{get_or-map, get_or-set_other, get_or-set_same, length-map, length-set}
 use Rattle.mr_base.specs.declared.ids.NodeId.{NodeId}
@@ -10,7 +10,7 @@ use Rattle.node_states.specs.declared.stage.RangePlan.{RangePlan}
 use Rattle.node_states.specs.declared.stage.Stage.{Stage}
 use Rattle.range_log.specs.LogValue.{LogValue}
 use Rattle.range_log.specs.declared.entries.Entry.{Entry}
-use Rattle.range_replicas.specs.RangeValue.{RangeValue, replicas}
+use Rattle.range_replicas.specs.RangeValue.{RangeValue}
 use Rattle.range_replicas.specs.Sound.{IsSound}
 use Rattle.range_server.specs.declared.standing.Standing.{Standing}
 use Rattle.replica_states.specs.RangeTies.{AreRangesTied, IsRangeTied, IsReplicaTied, planned}

@@ -1,5 +1,5 @@
 -- Where the ranges of a stage stand, and how a change of one keeps the ties of all.
-use Rattle.std.proofs.Common.{◌≡◌, ◌≢◌, ◌<◌, ◌≤◌, ◌+◌, ◌-◌, ◌∙◌, ◌==◌, ◌⊎◌, ℕ, zero, suc, Bool, true, false, cond, List, [], ◌∷◌, ◌++◌, Option, None, Some, All, AllPairs, Contains, find, map, set, get_or, take, length, refl, sym, ap, subst, inl, inr, arith, min}
+use Rattle.std.proofs.Common.{◌≡◌, ◌≢◌, ◌<◌, ◌≤◌, ◌+◌, ◌-◌, ◌∙◌, ◌==◌, ℕ, zero, suc, Bool, true, false, cond, List, [], ◌∷◌, ◌++◌, Option, Some, All, AllPairs, Contains, find, map, set, get_or, take, length, refl, sym, ap, subst, inl, inr, arith}
 use Rattle.std.proofs.lemmas.Bool.{cases_Bool, cases_eq, cases_order}
 use Rattle.std.proofs.lemmas.Bool.Decides.{nat_tests}
 use Rattle.std.proofs.lemmas.Grind.{get_or-set_at}
@@ -10,10 +10,10 @@ use Rattle.mr_base.specs.declared.ids.RangeId.{RangeId}
 use Rattle.node_states.specs.Stage.{AreNumbered, range_setup}
 use Rattle.node_states.specs.declared.stage.RangePlan.{RangePlan}
 use Rattle.range_log.specs.declared.entries.Entry.{Entry}
-use Rattle.range_replicas.specs.RangeValue.{RangeValue, replicas, server_at}
+use Rattle.range_replicas.specs.RangeValue.{RangeValue, replicas}
 use Rattle.range_replicas.specs.Sound.{IsSound}
 use Rattle.range_server.specs.declared.standing.Standing.{Standing}
-use Rattle.replica_states.specs.RangeTies.{AreRangesTied, IsRangeTied, IsReplicaTied, planned}
+use Rattle.replica_states.specs.RangeTies.{AreRangesTied, IsRangeTied, planned}
 use Rattle.run_words.specs.Ranges.{has_number}
 use Rattle.run_words.specs.Setup.{RangeSetup}
 

@@ -1,5 +1,5 @@
 -- The servers of a node that starts.
-use Rattle.std.proofs.Common.{◌≡◌, ◌≢◌, ◌<◌, ◌≤◌, ◌+◌, ◌∙◌, ◌==◌, ℕ, Bool, true, false, List, [], ◌∷◌, All, Contains, map, set, get_or, length, refl, sym, ap, subst, inl, inr, arith}
+use Rattle.std.proofs.Common.{◌≡◌, ◌≢◌, ◌<◌, ◌∙◌, ◌==◌, ℕ, Bool, true, false, List, Contains, map, set, get_or, length, refl, sym, ap, subst, inl, inr, arith}
 use Rattle.std.specs.Prelude.{if◌then◌else◌}
 use Rattle.std.proofs.lemmas.Bool.{cases_Bool, cases_eq}
 use Rattle.std.proofs.lemmas.Bool.Decides.{nat_tests}
@@ -12,7 +12,7 @@ use Rattle.range_replicas.specs.Sound.{IsSound}
 use Rattle.range_server.specs.Seen.{nothing_above}
 use Rattle.range_server.specs.declared.standing.Standing.{Standing}
 use Rattle.replica_states.proofs.OneRange.{other_node}
-use Rattle.replica_states.specs.Restarts.{AreBefore, restarted, restarted_server}
+use Rattle.replica_states.specs.Restarts.{restarted, restarted_server}
 
 abbrev number : ℕ → NodeId
 number k = record { 0 = k }
