@@ -17,6 +17,7 @@ mod making;
 mod network;
 mod nodes;
 mod readers;
+mod requests;
 mod serving;
 mod shows;
 mod state;
