@@ -10,6 +10,7 @@ mod ended_txns;
 mod endings;
 mod first_state;
 mod hints;
+mod leases;
 mod lines;
 mod mails;
 mod nodes;
