@@ -141,7 +141,7 @@ ranges_next setup h ranges lease r t numbered m number within plan n =
     record {
       each = All-push (IsRangeTied (log_of setup (first_item r.number lease ∷ h)) (applied setup (first_item r.number lease ∷ h)) (boot setup (first_item r.number lease ∷ h))) ranges r
           (λ k d l. old_range setup h r.number lease (get_or ranges k d)
-              (λ e. let at : (get_or ranges k d).number.0 ≡ 0 + k + 1 = range_number_at 0 ranges k d numbered l in omega (arith, e, at, number, l)) (t.each k d l))
+          (λ e. let at : (get_or ranges k d).number.0 ≡ 0 + k + 1 = range_number_at 0 ranges k d numbered l in omega (arith, e, at, number, l)) (t.each k d l))
           (new_range setup h (length ranges) lease r m number n);
       plans_are = plans_next setup.ranges ranges r within t.plans_are plan;
       made = λ i some. subst (λ (k : ℕ). (1 ≤ i.0) × (i.0 ≤ k)) (sym (length-append ranges (r ∷ []) ∙ plus_one (length ranges)))

@@ -104,29 +104,29 @@ one_changed log new applied now boot plans ranges i p d c l s t numbered li lp s
             log_is = log_is;
             servers_are = all_set (IsReplicaTied now boot r.number) r.servers p s lp tied
                 (λ k e lk ne.
-                    let x : Standing = get_or r.servers k e in
-                    let was : IsReplicaTied applied boot r.number x = old.servers_are k e lk in
-                    let apart : x.node.0 ≢ s.node.0 = λ q. other_node r p k c e old.sound lp lk ne (q ∙ ap (λ (n : NodeId). n.0) node) in
-                    record { applied_is = was.applied_is ∙ sym (here x.node apart); boot_is = was.boot_is });
+                let x : Standing = get_or r.servers k e in
+                let was : IsReplicaTied applied boot r.number x = old.servers_are k e lk in
+                let apart : x.node.0 ≢ s.node.0 = λ q. other_node r p k c e old.sound lp lk ne (q ∙ ap (λ (n : NodeId). n.0) node) in
+                record { applied_is = was.applied_is ∙ sym (here x.node apart); boot_is = was.boot_is });
           })
           (λ k e lk ne.
-              let x : RangeValue = get_or ranges k e in
-              let was : IsRangeTied log applied boot x = t.each k e lk in
-              let at_k : x.number.0 ≡ 0 + k + 1 = range_number_at 0 ranges k e numbered lk in
-              let at_i : r.number.0 ≡ 0 + i + 1 = range_number_at 0 ranges i d numbered li in
-              let apart : x.number.0 ≢ r.number.0 = λ q. ne (omega (arith, at_k, at_i, q)) in
-              record {
-                sound = was.sound;
-                log_is = was.log_is ∙ sym (logs x.number apart);
-                servers_are = λ m b lm.
-                    let y : IsReplicaTied applied boot x.number (get_or x.servers m b) = was.servers_are m b lm in
-                    record { applied_is = y.applied_is ∙ sym (others (get_or x.servers m b).node x.number apart); boot_is = y.boot_is };
-              });
+          let x : RangeValue = get_or ranges k e in
+          let was : IsRangeTied log applied boot x = t.each k e lk in
+          let at_k : x.number.0 ≡ 0 + k + 1 = range_number_at 0 ranges k e numbered lk in
+          let at_i : r.number.0 ≡ 0 + i + 1 = range_number_at 0 ranges i d numbered li in
+          let apart : x.number.0 ≢ r.number.0 = λ q. ne (omega (arith, at_k, at_i, q)) in
+          record {
+            sound = was.sound;
+            log_is = was.log_is ∙ sym (logs x.number apart);
+            servers_are = λ m b lm.
+                let y : IsReplicaTied applied boot x.number (get_or x.servers m b) = was.servers_are m b lm in
+                record { applied_is = y.applied_is ∙ sym (others (get_or x.servers m b).node x.number apart); boot_is = y.boot_is };
+          });
       plans_are = planned_set ranges i d (changed_at r p l s) li refl ∙ t.plans_are ∙ ap (λ (k : ℕ). take k plans) (sym (length-set ranges i (changed_at r p l s)));
       made = λ j some.
           let inside : (1 ≤ j.0) × (j.0 ≤ length ranges) = ⊎_elim
-            (λ same. subst (λ (k : ℕ). (1 ≤ k) × (k ≤ length ranges)) (sym same) (t.made r.number begun))
-            (λ other. t.made j (λ q. some (logs j other ∙ q)))
-            (same_or_not j.0 r.number.0) in
+          (λ same. subst (λ (k : ℕ). (1 ≤ k) × (k ≤ length ranges)) (sym same) (t.made r.number begun))
+          (λ other. t.made j (λ q. some (logs j other ∙ q)))
+          (same_or_not j.0 r.number.0) in
           (inside.0, omega (arith, inside.1, length-set ranges i (changed_at r p l s)));
     }

@@ -49,11 +49,11 @@ none_restarted node boot r sound none =
     let at : Standing → NodeId = λ s. s.node in
     let same : r.servers ≡ map (restarted_server node boot) r.servers
     = same_lists r.servers (map (restarted_server node boot) r.servers) (sym (length-map r.servers (restarted_server node boot)))
-        (λ k d h.
-        let apart : (get_or r.servers k d).node.0 ≢ node.0
-        = λ e. none (subst (λ (ns : List NodeId). Contains ns node) sound.nodes
-            (k, omega (arith, h, length-map r.servers at), get_or-map at r.servers k d node h ∙ ap number e)) in
-        sym (get_or-map (restarted_server node boot) r.servers k d d h ∙ elsewhere node boot (get_or r.servers k d) apart)) in
+    (λ k d h.
+    let apart : (get_or r.servers k d).node.0 ≢ node.0
+    = λ e. none (subst (λ (ns : List NodeId). Contains ns node) sound.nodes
+    (k, omega (arith, h, length-map r.servers at), get_or-map at r.servers k d node h ∙ ap number e)) in
+    sym (get_or-map (restarted_server node boot) r.servers k d d h ∙ elsewhere node boot (get_or r.servers k d) apart)) in
     ap (λ (xs : List Standing). record r { servers = xs }) same
 
 -- the node of one replica
@@ -62,19 +62,19 @@ pub one_restarted : (boot : ℕ) (node : NodeId) (r new : RangeValue) (place : �
 one_restarted boot node r new place s sound within at is changed =
     let same : set r.servers place s ≡ map (restarted_server node boot) r.servers
     = same_lists (set r.servers place s) (map (restarted_server node boot) r.servers) (length-set r.servers place s ∙ sym (length-map r.servers (restarted_server node boot)))
-        (λ k d h.
-        let long : k < length r.servers = subst (λ (n : ℕ). k < n) (length-set r.servers place s) h in
-        let mapped : get_or (map (restarted_server node boot) r.servers) k d ≡ restarted_server node boot (get_or r.servers k d)
-        = get_or-map (restarted_server node boot) r.servers k d d long in
-        elim (cases_eq k place) as (λ _. get_or (set r.servers place s) k d ≡ get_or (map (restarted_server node boot) r.servers) k d) [
-          | inl e ↦
-              let first : get_or r.servers k nobody ≡ get_or r.servers place nobody = ap (λ (n : ℕ). get_or r.servers n nobody) e in
-              let mapped2 : get_or (map (restarted_server node boot) r.servers) k d ≡ restarted_server node boot (get_or r.servers k nobody)
-              = get_or-map (restarted_server node boot) r.servers k nobody d long in
-              get_or-set_at r.servers place k s d e within ∙ is ∙ sym (here node boot (server_at place r) at)
-              ∙ ap (restarted_server node boot) (sym first) ∙ sym mapped2
-          | inr n ↦
-              get_or-set_other r.servers place k s d n
-              ∙ sym (mapped ∙ elsewhere node boot (get_or r.servers k d) (λ e. other_node r place k nobody d sound within long n (e ∙ ap (λ (m : NodeId). m.0) (sym at))))
-        ]) in
+    (λ k d h.
+    let long : k < length r.servers = subst (λ (n : ℕ). k < n) (length-set r.servers place s) h in
+    let mapped : get_or (map (restarted_server node boot) r.servers) k d ≡ restarted_server node boot (get_or r.servers k d)
+    = get_or-map (restarted_server node boot) r.servers k d d long in
+    elim (cases_eq k place) as (λ _. get_or (set r.servers place s) k d ≡ get_or (map (restarted_server node boot) r.servers) k d) [
+      | inl e ↦
+          let first : get_or r.servers k nobody ≡ get_or r.servers place nobody = ap (λ (n : ℕ). get_or r.servers n nobody) e in
+          let mapped2 : get_or (map (restarted_server node boot) r.servers) k d ≡ restarted_server node boot (get_or r.servers k nobody)
+          = get_or-map (restarted_server node boot) r.servers k nobody d long in
+          get_or-set_at r.servers place k s d e within ∙ is ∙ sym (here node boot (server_at place r) at)
+          ∙ ap (restarted_server node boot) (sym first) ∙ sym mapped2
+      | inr n ↦
+          get_or-set_other r.servers place k s d n
+          ∙ sym (mapped ∙ elsewhere node boot (get_or r.servers k d) (λ e. other_node r place k nobody d sound within long n (e ∙ ap (λ (m : NodeId). m.0) (sym at))))
+    ]) in
     changed ∙ ap (λ (xs : List Standing). record r { servers = xs }) same

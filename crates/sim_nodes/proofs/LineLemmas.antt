@@ -117,8 +117,8 @@ line_tied s line event move old nodes running t due names m o l e among ranges h
       laws = (record { order = (due, names); message = tt; append = tt; waited = tt; begun = tt }, t.laws);
       count = ap length back ∙ same_count s (moved (move_of event)) nodes t e2;
       nodes_are = subst (λ (ns : List NodeState). NodesTied (the_setup s) (Ran line event ∷ past s) ns running) (sym back)
-    (subst (λ (ns : List NodeState). NodesTied (the_setup s) (Ran line event ∷ past s) ns running) (sym e2)
-    (line_keeps s.stage (past s) line event s.nodes.items s.running running t.laws t.nodes_are (subst (λ (ns : List NodeState). All (IsAmong running) ns) e2 among)));
+          (subst (λ (ns : List NodeState). NodesTied (the_setup s) (Ran line event ∷ past s) ns running) (sym e2)
+          (line_keeps s.stage (past s) line event s.nodes.items s.running running t.laws t.nodes_are (subst (λ (ns : List NodeState). All (IsAmong running) ns) e2 among)));
       ranges_are = are;
       mails_are = t.mails_are;
       begun_are = t.begun_are;
@@ -143,8 +143,7 @@ boot_moved s n t there =
 pub line_ahead : (s : State) (event : Event) → IsTied s → NamesNode (the_setup s) event
     → IsAhead (move_of event) (map (moved (move_of event)) s.nodes.items) s.ranges.items
 line_ahead s (events.Start n) t names =
-    let there = named_there s.stage n t.staged names in
-    (
+    let there = named_there s.stage n t.staged names in (
       there.0,
       omega (arith, there.1, t.count, length-map s.nodes.items (moved (moves.Start n))),
       servers_before (log_of (the_setup s) (past s)) (applied (the_setup s) (past s)) (boot (the_setup s) (past s)) (the_setup s).ranges s.ranges.items n
@@ -191,7 +190,7 @@ pub ranges_after : (s : State) (line : ℕ) (event : Event) (move : Move) (nodes
 ranges_after s line event move nodes old new t names m n r len e sound =
     let same : new ≡ moved_ranges (move_of event) (map (moved (move_of event)) s.nodes.items) s.ranges.items
     = e ∙ ap (λ (x : Move). moved_ranges x nodes old) m ∙ ap (λ (x : List NodeState). moved_ranges (move_of event) x old) n
-        ∙ ap (λ (x : List RangeValue). moved_ranges (move_of event) (map (moved (move_of event)) s.nodes.items) x) r in
+    ∙ ap (λ (x : List RangeValue). moved_ranges (move_of event) (map (moved (move_of event)) s.nodes.items) x) r in
     let long : length new ≡ s.ranges.len = ap length e ∙ length_moved move nodes old ∙ len in
     let back : (with_items s.ranges new).items ≡ moved_ranges (move_of event) (map (moved (move_of event)) s.nodes.items) s.ranges.items
     = with_items_is s.ranges new long ∙ same in

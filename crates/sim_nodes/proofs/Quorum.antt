@@ -56,9 +56,10 @@ among s h n d t there =
     let is : node ≡ get_or s.nodes.items (n.0 - 1) node = sym (any_at s.nodes.items (n.0 - 1) node d inside) in
     let id : node.id ≡ n = id_at s h n node t there is in
     let runs : node.runs ≡ is_running (the_setup s) h n = runs_at s h n node t there is in
-    let both : IsMember s.running node.id ↔ (node.runs ≡ true) = t.nodes_are.running_are (n.0 - 1) d inside in
-    (λ up. subst (λ (m : NodeId). IsMember s.running m) id (both.1 (runs ∙ up)),
-     λ member. sym runs ∙ both.0 (subst (λ (m : NodeId). IsMember s.running m) (sym id) member))
+    let both : IsMember s.running node.id ↔ (node.runs ≡ true) = t.nodes_are.running_are (n.0 - 1) d inside in (
+      λ up. subst (λ (m : NodeId). IsMember s.running m) id (both.1 (runs ∙ up)),
+      λ member. sym runs ∙ both.0 (subst (λ (m : NodeId). IsMember s.running m) (sym id) member),
+    )
 
 -- where a majority of a range's voters runs, it has a quorum
 pub quorum_of : (law : MajorityIsMoreThanHalf) (s : State) (h : History) (j : RangeId) (r : RangeValue) (d : NodeState) → IsTiedTo h s → log_of (the_setup s) h j ≢ []
@@ -66,18 +67,18 @@ pub quorum_of : (law : MajorityIsMoreThanHalf) (s : State) (h : History) (j : Ra
 quorum_of law s h j r d t made is most =
     let sound : IsSound r = (range_tied s h t j made r is).sound in
     let plan : find (has_number j) (the_setup s).ranges ≡ Some (planned r) =
-      plan_made (log_of (the_setup s) h) (applied (the_setup s) h) (boot (the_setup s) h) (the_setup s).ranges s.ranges.items (numbered s h t) t.ranges_are j r made
-      ∙ ap (λ (x : RangeValue). Some (planned x)) (sym is) in
+    plan_made (log_of (the_setup s) h) (applied (the_setup s) h) (boot (the_setup s) h) (the_setup s).ranges s.ranges.items (numbered s h t) t.ranges_are j r made
+    ∙ ap (λ (x : RangeValue). Some (planned x)) (sym is) in
     let voters : voters_of (the_setup s) h j ≡ r.voters = ap (λ (o : Option RangeSetup). option_map_or (λ range. range.voters) o []) plan in
     let held : replicas_of (the_setup s) h j ≡ r.voters ++ r.others = ap (λ (o : Option RangeSetup). option_map_or (λ range. range.voters ++ range.others) o []) plan in
     let runs : All (λ (n : NodeId). IsTrue (is_running (the_setup s) h n) ↔ IsMember s.running n) r.voters =
-      λ k e l.
-          let n : NodeId = get_or r.voters k e in
-          let inside : k < length (r.voters ++ r.others) = omega (arith, l, length-append r.voters r.others) in
-          let at : get_or (r.voters ++ r.others) k n ≡ n = front_at r.voters r.others k n l ∙ any_at r.voters k n e l in
-          let holds : Contains (replicas_of (the_setup s) h j) n = subst (λ (ns : List NodeId). Contains ns n) (sym held) (k, inside, at) in
-          among s h n d t (replica_there s.stage h n j t.staged holds) in
+    λ k e l.
+    let n : NodeId = get_or r.voters k e in
+    let inside : k < length (r.voters ++ r.others) = omega (arith, l, length-append r.voters r.others) in
+    let at : get_or (r.voters ++ r.others) k n ≡ n = front_at r.voters r.others k n l ∙ any_at r.voters k n e l in
+    let holds : Contains (replicas_of (the_setup s) h j) n = subst (λ (ns : List NodeId). Contains ns n) (sym held) (k, inside, at) in
+    among s h n d t (replica_there s.stage h n j t.staged holds) in
     let half : length r.voters < 2 * length (filter (is_running (the_setup s) h) r.voters) =
-      (law r.voters (is_running (the_setup s) h) s.running (front_all IsNode r.voters r.others sound.numbered) (front_pairs ◌≢◌ r.voters r.others sound.distinct) runs).0
-      (ap (λ (v : NodeSet). has_majority v s.running) (sym sound.voters) ∙ most) in
+    (law r.voters (is_running (the_setup s) h) s.running (front_all IsNode r.voters r.others sound.numbered) (front_pairs ◌≢◌ r.voters r.others sound.distinct) runs).0
+    (ap (λ (v : NodeSet). has_majority v s.running) (sym sound.voters) ∙ most) in
     subst (λ (ns : List NodeId). length ns < 2 * length (filter (is_running (the_setup s) h) ns)) (sym voters) half

@@ -13,6 +13,7 @@ mod hints;
 mod leases;
 mod lines;
 mod mails;
+mod making;
 mod nodes;
 mod readers;
 mod serving;

@@ -12,7 +12,7 @@ returns c =
     let new = c.handle.new.self in
     let done = c.in_ok-handled.ensures in
     let appended : made_all c.in_ok-appended.appended.items ≡ appends old.number (length old.log.entries) (added_in old new) =
-      c.in_ok-appended.ensures ∙ rw (c.number-number.ensures, c.len-before.ensures, c.log.ensures, c.log-2.ensures) refl in
+    c.in_ok-appended.ensures ∙ rw (c.number-number.ensures, c.len-before.ensures, c.log.ensures, c.log-2.ensures) refl in
     record {
       place = c.in-Some.place;
       inside = c.in-Some.ensures.0;
