@@ -6,6 +6,7 @@ pub mod EntryLemmas
 pub mod FirstLemmas
 pub mod FlightLemmas
 pub mod HandledKeep
+pub mod LeaseLemmas
 pub mod LineLemmas
 pub mod MakingLemmas
 pub mod NodeAt

@@ -50,7 +50,7 @@ IsWhy refusals.NotVoter w = w ≡ why.NotVoter
 IsWhy (refusals.Live expiration) w = w ≡ why.Live expiration
 IsWhy refusals.NotHolder w = w ≡ why.NotHolder
 IsWhy (refusals.NoQuorum down) w = w ≡ why.NoQuorum down
-IsWhy refusals.Memory w = ⊤
+IsWhy refusals.Memory w = ⊥
 
 -- A lease is appended, and said; or it is said why not.
 abbrev pub MovesLease : RangeId → History → Type 0

@@ -100,9 +100,9 @@ impl State {
         let settings = self.stage.settings;
         let range = &mut self.ranges[(number.0 - 1) as usize];
         let applied = range.applied(place);
-        let index = range.log().len() + 1;
         match ask_lease(range, place, ask, clock, &settings, self.running) {
             Ok(lease) => {
+                let index = range.log().len();
                 learn_leases(self.hints.as_mut_slice(), node, range, applied, index);
                 self.ledger.write(JournalEntry::Append {
                     range: number,
