@@ -6,9 +6,12 @@ pub mod EntryLemmas
 pub mod FirstLemmas
 pub mod FlightLemmas
 pub mod HandledKeep
+pub mod LeaseLaws
 pub mod LeaseLemmas
+pub mod LeaseTies
 pub mod LineLemmas
 pub mod MakingLemmas
+pub mod MemberLemmas
 pub mod NodeAt
 pub mod QuietLemmas
 pub mod Quorum
