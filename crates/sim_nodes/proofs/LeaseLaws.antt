@@ -98,30 +98,35 @@ module _ (law : MajorityIsMoreThanHalf) (s : State) (t : IsTied s) (j : RangeId)
       → IsLeasedBy (the_setup s) (past s) j lease (Some (lease_event ask j n))
   next_lease asks.Acquire lease after to g =
       let boots : (server_at place r).boot ≡ boot (the_setup s) (past s) n = boot_there s (past s) t j made r is place n there at in
-      let member : IsMember r.log.voters n = subst (λ (m : NodeId). IsMember r.log.voters m) at g.voter in
-      (
+      let member : IsMember r.log.voters n = subst (λ (m : NodeId). IsMember r.log.voters m) at g.voter in (
         g.last,
         last_is g.last g.is_last,
         quorum_of law s (past s) j r node t made is g.quorum,
-        (is_voter n is_node member, runs, subst (λ (w : Reading). IsAcquired g.last lease n (boot (the_setup s) (past s) n) w.wall s.stage.settings.lease) clock_is
-            (subst (λ (b : ℕ). IsAcquired g.last lease n b clock.wall s.stage.settings.lease) boots
-            (subst (λ (m : NodeId). IsAcquired g.last lease m (server_at place r).boot clock.wall s.stage.settings.lease) at g.acquired))),
+        (
+          is_voter n is_node member,
+          runs,
+          subst (λ (w : Reading). IsAcquired g.last lease n (boot (the_setup s) (past s) n) w.wall s.stage.settings.lease) clock_is
+              (subst (λ (b : ℕ). IsAcquired g.last lease n b clock.wall s.stage.settings.lease) boots
+              (subst (λ (m : NodeId). IsAcquired g.last lease m (server_at place r).boot clock.wall s.stage.settings.lease) at g.acquired)),
+        ),
       )
-  next_lease (asks.Transfer m b) lease after to g =
-      (
-        g.last,
-        last_is g.last g.holds.last,
-        quorum_of law s (past s) j r node t made is g.quorum,
-        (is_voter m to.0 g.voter, acting g.last g.holds, subst (λ (w : ℕ). IsTransferred g.last lease m (boot (the_setup s) (past s) m) w s.stage.settings.lease) (clock_of g.last g.holds)
-            (subst (λ (x : ℕ). IsTransferred g.last lease m x clock.wall s.stage.settings.lease) to.1 g.transferred)),
-      )
-  next_lease asks.Extend lease after to g =
-      (
-        g.last,
-        last_is g.last g.holds.last,
-        quorum_of law s (past s) j r node t made is g.quorum,
-        (acting g.last g.holds, subst (λ (w : ℕ). IsExtended g.last lease w s.stage.settings.lease) (clock_of g.last g.holds) g.extended),
-      )
+  next_lease (asks.Transfer m b) lease after to g = (
+    g.last,
+    last_is g.last g.holds.last,
+    quorum_of law s (past s) j r node t made is g.quorum,
+    (
+      is_voter m to.0 g.voter,
+      acting g.last g.holds,
+      subst (λ (w : ℕ). IsTransferred g.last lease m (boot (the_setup s) (past s) m) w s.stage.settings.lease) (clock_of g.last g.holds)
+          (subst (λ (x : ℕ). IsTransferred g.last lease m x clock.wall s.stage.settings.lease) to.1 g.transferred),
+    ),
+  )
+  next_lease asks.Extend lease after to g = (
+    g.last,
+    last_is g.last g.holds.last,
+    quorum_of law s (past s) j r node t made is g.quorum,
+    (acting g.last g.holds, subst (λ (w : ℕ). IsExtended g.last lease w s.stage.settings.lease) (clock_of g.last g.holds) g.extended),
+  )
 
   holder_is : (last : Lease) → Holds found last → holder_of (log_of (the_setup s) (past s) j) ≡ Some n
   holder_is last holds = ap (option_map (λ (x : Lease). x.holder)) (last_is last holds.last) ∙ ap (λ (m : NodeId). Some m) (holds.names.0 ∙ at)

@@ -115,3 +115,17 @@ answered_too (refusals.Live expiration) h = tt
 answered_too refusals.NotHolder h = tt
 answered_too (refusals.NoQuorum down) h = tt
 answered_too refusals.Memory h = h
+
+pub said_keeps : (s : State) (j : RangeId) (w : LeaseWhy) → IsTied s → IsLeaseEventAt (event_of (past s)) j → has_entry (past s) ≡ false
+    → IsTiedTo (Made (entry.LeaseRefused j w) ∷ past s) s
+said_keeps s j w t line first =
+    record {
+      staged = t.staged;
+      laws = (record { order = (line, first); message = tt; append = tt; waited = tt; begun = tt }, t.laws);
+      count = t.count;
+      nodes_are = t.nodes_are;
+      ranges_are = t.ranges_are;
+      mails_are = t.mails_are;
+      begun_are = t.begun_are;
+      sent_are = t.sent_are;
+    }

@@ -140,8 +140,8 @@ module _ (s : State) (t : IsTied s) (j : RangeId) (made : log_of (the_setup s) (
       let count = applied (the_setup s) (past s) m j in
       let stays : applied (the_setup s) h1 m j ≡ count
       = when_true (j.0 == j.0) (if makes_ranges (event_of (past s)) || is_node_of (actor (the_setup s) (past s) j) m then max count index else count) count (same_test j.0 j.0 refl)
-          ∙ when_false (makes_ranges (event_of (past s)) || is_node_of (actor (the_setup s) (past s) j) m) (max count index) count
-          (either_false (makes_ranges (event_of (past s))) (is_node_of (actor (the_setup s) (past s) j) m) makes not_acts) in
+      ∙ when_false (makes_ranges (event_of (past s)) || is_node_of (actor (the_setup s) (past s) j) m) (max count index) count
+      (either_false (makes_ranges (event_of (past s))) (is_node_of (actor (the_setup s) (past s) j) m) makes not_acts) in
       record { applied_is = old.applied_is ∙ ap (applied (the_setup s) (past s) m) number ∙ sym stays; boot_is = old.boot_is }
 
   range2 : IsRangeTied (log_of (the_setup s) h1) (applied (the_setup s) h1) (boot (the_setup s) h1) r2

@@ -21,15 +21,15 @@ from_fold (m ∷ ns) set n nodes one e =
     let first = All-head IsNode m ns nodes in
     elim there as (λ _. (bit_at set.0 (n.0 - 1) ≡ 1) ⊎ Contains (m ∷ ns) n) [
       | inl b ↦ elim (cases_eq (n.0 - 1) (m.0 - 1)) as (λ _. (bit_at set.0 (n.0 - 1) ≡ 1) ⊎ Contains (m ∷ ns) n) [
-          | inl same ↦
-              let numbers : m.0 ≡ n.0 = omega (arith, same, first.0, one.0) in
-              let within : 0 < length (m ∷ ns) = omega arith in
-              inr (0, within, ap number numbers)
-          | inr other ↦
-              let or_is = bit_at_or set.0 (2 ^ (m.0 - 1)) (n.0 - 1) in
-              let none = bit_at-pow_other (m.0 - 1) (n.0 - 1) other in
-              inl (let is : bit_at set.0 (n.0 - 1) ≡ 1 = omega (arith, b, or_is, none) in is)
-        ]
+        | inl same ↦
+            let numbers : m.0 ≡ n.0 = omega (arith, same, first.0, one.0) in
+            let within : 0 < length (m ∷ ns) = omega arith in
+            inr (0, within, ap number numbers)
+        | inr other ↦
+            let or_is = bit_at_or set.0 (2 ^ (m.0 - 1)) (n.0 - 1) in
+            let none = bit_at-pow_other (m.0 - 1) (n.0 - 1) other in
+            inl (let is : bit_at set.0 (n.0 - 1) ≡ 1 = omega (arith, b, or_is, none) in is)
+      ]
       | inr c ↦ inr (suc c.0, omega (arith, c.1), c.2)
     ]
 

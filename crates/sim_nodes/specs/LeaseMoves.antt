@@ -52,7 +52,7 @@ IsWhy refusals.NotHolder w = w ≡ why.NotHolder
 IsWhy (refusals.NoQuorum down) w = w ≡ why.NoQuorum down
 IsWhy refusals.Memory w = ⊥
 
--- A lease is appended, and said; or it is said why not.
+-- A lease is appended, and said; or it is said why not. (Leases: Taft et al., SIGMOD 2020, in this project's profile.)
 abbrev pub MovesLease : RangeId → History → Type 0
 MovesLease j items =
     ((lease : Lease) × (index : ℕ)

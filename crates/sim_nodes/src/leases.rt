@@ -1,18 +1,22 @@
 //! Leases are taken, handed on and extended.
 
-ghost use Rattle.std.specs.Prelude.{◌≡◌, ◌≢◌, ◌<◌, OnErr, OnOk, IfOk, [], length, true};
+ghost use Rattle.std.specs.Prelude.{◌≡◌, ◌≢◌, ◌<◌, ◌∷◌, OnErr, OnOk, IfOk, [], false, length, true};
+ghost use Rattle.journal.specs.declared.entries.JournalEntry.TheVariants as made;
+ghost use Rattle.journal.specs.declared.events.Event.TheVariants as events;
 ghost use Rattle.range_replicas.specs.RangeValue.{IsChangedAt, scene_at, server_at};
 ghost use Rattle.range_replicas.specs.Sound.{IsSound};
 ghost use Rattle.range_server.specs.Leases.{HasAnswered, HasRefused};
 ghost use Rattle.range_server.specs.Scene.{moment};
 ghost use Rattle.run_laws.specs.OrderEvents.{IsFirstAt};
+ghost use Rattle.run_laws.specs.RangeLines.{IsLeaseEventAt};
 ghost use Rattle.run_words.specs.Clocks.{reading};
-ghost use Rattle.run_words.specs.History.{History};
+ghost use Rattle.run_words.specs.History.{History, Made};
 ghost use Rattle.run_words.specs.Logs.{log_of};
 ghost use Rattle.run_words.specs.Nodes.{is_running};
+ghost use Rattle.run_words.specs.Steps.{event_of, has_entry};
 ghost use Rattle.sim_nodes.specs.LeaseMoves.{Gives, IsAskOf, IsAskAt, IsWhy, MovesLease, lease_event};
 ghost use Rattle.sim_nodes.specs.RangeAt.{range_at};
-ghost use Rattle.sim_nodes.specs.Tied.{HasMade, IsTied, IsUnrecorded, past, the_setup};
+ghost use Rattle.sim_nodes.specs.Tied.{HasMade, IsThere, IsTied, IsUnrecorded, past, the_setup};
 
 use crate::hints::learn_leases;
 use crate::state::State;
@@ -119,9 +123,43 @@ impl State {
             }
             Err(refusal) => {
                 let why = why_of(refusal)?;
-                self.ledger.write(JournalEntry::LeaseRefused { range: number, why });
+                self.ledger
+                    .write(JournalEntry::LeaseRefused { range: number, why });
                 Ok(())
             }
         }
+    }
+}
+
+impl State {
+    /// It is said why a lease doesn't move.
+    fn refuse_lease(&mut self, number: RangeId, why: LeaseWhy) -> Result<(), Memory>
+        requires tied { IsTied self.old }
+        requires line { IsLeaseEventAt (event_of (past self.old)) number }
+        requires first { has_entry (past self.old) ≡ false }
+        ensures made { OnOk result (HasMade (Made (made.LeaseRefused number why) ∷ []) self.old self.new) }
+        ensures err { OnErr result (IsUnrecorded self.old self.new) }
+    {
+        self.ledger.reserve(1)?;
+        self.ledger
+            .write(JournalEntry::LeaseRefused { range: number, why });
+        Ok(())
+    }
+
+    /// A node that runs takes the lease of a range where that is expired, at the line that says so.
+    pub fn acquire(&mut self, number: RangeId, node: NodeId) -> Result<(), Memory>
+        requires tied { IsTied self.old }
+        requires there { IsThere self.old.stage node }
+        requires line { IsFirstAt (past self.old) (events.LeaseAcquire number node) }
+        requires running { is_running (the_setup self.old) (past self.old) node ≡ true }
+        requires made { log_of (the_setup self.old) (past self.old) number ≢ [] }
+        ensures made { OnOk result ((items : History) × MovesLease number items × HasMade items self.old self.new) }
+        ensures err { OnErr result (IsUnrecorded self.old self.new) }
+    {
+        let Some(place) = self.ranges[(number.0 - 1) as usize].place_of(node) else {
+            return self.refuse_lease(number, LeaseWhy::NotVoter);
+        };
+        let clock = self.nodes[(node.0 - 1) as usize].clock.reading();
+        self.move_lease(number, node, place, Ask::Acquire, clock)
     }
 }

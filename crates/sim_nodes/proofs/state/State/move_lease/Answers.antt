@@ -19,8 +19,7 @@ pub returns-in_ok-why-in-Err-clause-made : goal.returns-in_ok-why-in-Err-clause-
 returns-in_ok-why-in-Err-clause-made c =
     let s = c.args.self.now in
     let no = was_refused c.in-Err.refusal c.in_ok-why-in-Err.why c.in_ok-why-in-Err.ensures in
-    let answered = c.in-Err.ensures in
-    (
+    let answered = c.in-Err.ensures in (
       _,
       inr (c.in_ok-why-in-Err.why, refl),
       made_entry s (record s { ranges = with_item s.ranges (c.args.number.0 - 1) c.ask_lease.new.range }) refl c.reserve.new.self c.write-in-Err.new.self _ _
@@ -48,16 +47,15 @@ returns-in-Ok-clause-made c =
     let lease = c.in-Ok.lease in
     let grown = leased_grown c.args.ask found lease r2.log.entries c.in-Ok.ensures.answer in
     let next = next_lease law s c.requires.tied j made r is c.args.place c.args.node there at c.args.clock c.requires.clock c.requires.running no_node c.args.ask lease r2.log.entries
-        c.requires.to c.in-Ok.ensures.answer in
+    c.requires.to c.in-Ok.ensures.answer in
     let is_live = live law s c.requires.tied j made r is c.args.place c.args.node there at c.args.clock c.requires.clock c.requires.running no_node in
     let acts = actor_at (the_setup s) (past s) c.args.ask j c.args.node c.requires.line
-        (appender law s c.requires.tied j made r is c.args.place c.args.node there at c.args.clock c.requires.clock c.requires.running no_node c.args.ask lease r2.log.entries c.in-Ok.ensures.answer) in
+    (appender law s c.requires.tied j made r is c.args.place c.args.node there at c.args.clock c.requires.clock c.requires.running no_node c.args.ask lease r2.log.entries c.in-Ok.ensures.answer) in
     let keeps = leased_keeps s c.requires.tied j made r is c.args.place c.args.node there at r2 (c.in-Ok.ensures.changed tt) (c.in-Ok.ensures.sound tt) lease grown c.in-Ok.ensures.node
-        c.in-Ok.ensures.boot c.in-Ok.ensures.applied c.args.ask c.requires.line acts is_live next in
+    c.in-Ok.ensures.boot c.in-Ok.ensures.applied c.args.ask c.requires.line acts is_live next in
     let counted : c.len-index.result ≡ length r2.log.entries = c.len-index.ensures ∙ ap (λ (l : LogValue). length l.entries) c.log.ensures in
     let tied = subst (λ (k : ℕ). IsTiedTo (Made (entry.Lease j lease.seq lease.holder lease.expiration) ∷ Made (entry.Append j k (log.Lease lease)) ∷ past s)
-            (record s { ranges = with_item s.ranges (j.0 - 1) r2 })) (sym counted) keeps in
-    (
+    (record s { ranges = with_item s.ranges (j.0 - 1) r2 })) (sym counted) keeps in (
       _,
       inl (lease, _, refl),
       made_two s (record s { ranges = with_item s.ranges (j.0 - 1) r2; hints = _ }) refl c.reserve.new.self c.write.new.self c.write-in-Ok.new.self _ _ _ _
