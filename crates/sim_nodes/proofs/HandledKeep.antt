@@ -151,7 +151,7 @@ module _ (law : MajorityIsMoreThanHalf) (s : State) (h : History) (t : IsTiedTo 
   at_most : (server_at place r).replica.applied ≤ length r.log.entries
   at_most =
       let f : (server_at place r).replica.applied ≡ length (first_entries (server_at place r).replica.applied r.log.entries) =
-        ((range_tied s h t j made r is).sound.follows place nobody there).count in
+      ((range_tied s h t j made r is).sound.follows place nobody there).count in
       omega (arith, f, length-drop (length r.log.entries - (server_at place r).replica.applied) r.log.entries)
 
   counts_behind : (added entries : List Entry) → entries ≡ added ++ r.log.entries
@@ -193,9 +193,9 @@ module _ (law : MajorityIsMoreThanHalf) (s : State) (h : History) (t : IsTiedTo 
         (λ k ne. log_apart S h j k before added (other_test j.0 k.0 (subst (λ (i : RangeId). k.0 ≢ i.0) number ne)))
         (λ m k ne. applied_apart S h j k m before added (other_test j.0 k.0 (subst (λ (i : RangeId). k.0 ≢ i.0) number ne)))
         (λ m ne.
-            let apart : (n.0 == m.0) ≡ false = other_test n.0 m.0 (subst (λ (x : NodeId). m.0 ≢ x.0) (nodes ∙ at) ne) in
-            subst (λ (i : RangeId). applied S h2 m i ≡ applied S h m i) (sym number)
-            (applied_others S h j n m before added step by (steps_make_none S h t.laws (step_is (event_of h) (step_of h) step)) apart))))
+        let apart : (n.0 == m.0) ≡ false = other_test n.0 m.0 (subst (λ (x : NodeId). m.0 ≢ x.0) (nodes ∙ at) ne) in
+        subst (λ (i : RangeId). applied S h2 m i ≡ applied S h m i) (sym number)
+        (applied_others S h j n m before added step by (steps_make_none S h t.laws (step_is (event_of h) (step_of h) step)) apart))))
 
     -- what was appended is recorded
     pub appended_tied : IsTiedTo h2 (record s { ranges = with_item s.ranges (j.0 - 1) r2 })

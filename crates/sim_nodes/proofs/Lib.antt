@@ -7,10 +7,14 @@ pub mod FirstLemmas
 pub mod FlightLemmas
 pub mod HandledKeep
 pub mod HereKeep
+pub mod LeaseLaws
+pub mod LeaseLemmas
+pub mod LeaseTies
 pub mod LineLemmas
 pub mod MakingLemmas
-pub mod NodeAt
+pub mod MemberLemmas
 pub mod NoRangeLemmas
+pub mod NodeAt
 pub mod QuietLemmas
 pub mod Quorum
 pub mod RangeLemmas

@@ -99,15 +99,17 @@ first_of s plan entries lease base z t there b last =
     let wall : first_wall s.nodes.items plan.voters ≡ (reading (the_setup s) (past s) b.lease.holder).wall =
     ap (first_wall s.nodes.items) v.1 ∙ ap (λ r. r.wall) (reading_told s b.lease.holder t own) in
     let low : base ≡ unwrap_or (schema (the_setup s) (past s)) (at_wall 0) = z ∙ ap (λ (o : Option Ts). unwrap_or o (at_wall 0)) (sym (no_schema s.stage (past s) t.laws)) in (
-      b.lease.holder, v, b.alone ∙ ap (λ (l : Lease). log.Lease l ∷ []) same,
+      b.lease.holder,
+      v,
+      b.alone ∙ ap (λ (l : Lease). log.Lease l ∷ []) same,
       subst (λ (l : Lease). IsFirst l b.lease.holder (boot (the_setup s) (past s) b.lease.holder) (reading (the_setup s) (past s) b.lease.holder).wall s.stage.settings.lease (unwrap_or (schema (the_setup s) (past s)) (at_wall 0))) same
-      (record {
-        seq = b.first.seq;
-        holder_is = refl;
-        boot_is = boot_is;
-        expiration = b.first.expiration ∙ ap (λ w. w + s.stage.settings.lease) wall;
-        low_is = b.first.low_is ∙ low;
-      }),
+          (record {
+            seq = b.first.seq;
+            holder_is = refl;
+            boot_is = boot_is;
+            expiration = b.first.expiration ∙ ap (λ w. w + s.stage.settings.lease) wall;
+            low_is = b.first.low_is ∙ low;
+          }),
     )
 
 -- ---- the state with the range
@@ -196,18 +198,21 @@ range_made s ranges hints plan base r lease z t m within is n pushed =
     let nodes : map (λ (x : Standing). x.node) r.servers ≡ plan.voters ++ plan.others = n.sound.nodes ∙ ap (λ (p : RangeSetup). p.voters ++ p.others) n.planned_is in
     record {
       staged = t.staged;
-      laws = (record {
-        order = inl (m.line, is_behind (reached (past s)) (length s.ranges.items) r.number m.reached_to number);
-        message = tt;
-        append = record {
-          live = subst IsSome (sym told) refl;
-          index_is = ap (λ (es : List Entry). length es + 1) (sym old.0);
-          by = subst (λ (v : Option Event). IsLeasedBy (the_setup s) (past s) r.number lease v) (sym m.line)
-              (record { first = old.0; holder = f.0; voter = (f.1.0, ap (λ (o : Option RangeSetup). option_map_or (λ p. p.voters) o []) told ∙ f.1.1); is = f.3 });
-        };
-        waited = tt;
-        begun = tt;
-      }, t.laws);
+      laws = (
+        record {
+          order = inl (m.line, is_behind (reached (past s)) (length s.ranges.items) r.number m.reached_to number);
+          message = tt;
+          append = record {
+            live = subst IsSome (sym told) refl;
+            index_is = ap (λ (es : List Entry). length es + 1) (sym old.0);
+            by = subst (λ (v : Option Event). IsLeasedBy (the_setup s) (past s) r.number lease v) (sym m.line)
+                (record { first = old.0; holder = f.0; voter = (f.1.0, ap (λ (o : Option RangeSetup). option_map_or (λ p. p.voters) o []) told ∙ f.1.1); is = f.3 });
+          };
+          waited = tt;
+          begun = tt;
+        },
+        t.laws,
+      );
       count = t.count;
       nodes_are = t.nodes_are;
       ranges_are = rw pushed (ranges_next (the_setup s) (past s) s.ranges.items lease r t.ranges_are (ranges_numbered s.stage s.ranges.items t.staged t.ranges_are.plans_are) m number

@@ -40,7 +40,7 @@ any_at (x ∷ xs) (suc i) d e l = any_at xs i d e (omega (arith, l))
 front_at : {X : Type 0} (xs ys : List X) (k : ℕ) (d : X) → k < length xs → get_or (xs ++ ys) k d ≡ get_or xs k d
 front_at xs ys k d l = get_or_append_left xs ys d k l
 
-front_all : {X : Type 0} (P : X → Type 0) (xs ys : List X) → All P (xs ++ ys) → All P xs
+pub front_all : {X : Type 0} (P : X → Type 0) (xs ys : List X) → All P (xs ++ ys) → All P xs
 front_all P xs ys all = λ k d l. subst P (front_at xs ys k d l) (all k d (omega (arith, l, length-append xs ys)))
 
 front_pairs : {X : Type 0} (R : X → X → Type 0) (xs ys : List X) → AllPairs R (xs ++ ys) → AllPairs R xs

@@ -15,6 +15,7 @@ ghost use Rattle.run_words.specs.Steps.{event_of, has_ticked};
 ghost use Rattle.run_words.specs.Transactions.{attempts};
 ghost use Rattle.sim_nodes.specs.Applying.{Applies};
 ghost use Rattle.sim_nodes.specs.Begun.{HasBegun};
+ghost use Rattle.sim_nodes.specs.LeaseMoves.{MovesLease};
 ghost use Rattle.sim_nodes.specs.NodesValue.{ended_as, setup, with_items};
 ghost use Rattle.sim_nodes.specs.Tied.{IsThere};
 
@@ -85,6 +86,23 @@ impl Nodes {
     {
         self.ended = true;
         self.state.begin(self.alloc)?;
+        self.ended = false;
+        Ok(())
+    }
+
+    /// A node that runs takes the lease of a range where that is expired, at the line that says so; else it is said why
+    /// not.
+    pub fn acquire(&mut self, range: RangeId, node: NodeId) -> Result<(), Memory>
+        requires open { self.old.ended ≡ false }
+        requires there { IsThere self.old.stage node }
+        requires line { IsFirstAt self.old.history (events.LeaseAcquire range node) }
+        requires running { is_running (setup self.old) self.old.history node ≡ true }
+        requires made { log_of (setup self.old) self.old.history range ≢ [] }
+        ensures made { OnOk result ((items : History) × MovesLease range items × (self.new ≡ with_items items self.old)) }
+        ensures err { OnErr result (self.new ≡ ended_as self.old) }
+    {
+        self.ended = true;
+        self.state.acquire(range, node)?;
         self.ended = false;
         Ok(())
     }

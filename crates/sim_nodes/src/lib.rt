@@ -11,6 +11,7 @@ mod endings;
 mod first_state;
 mod handling;
 mod hints;
+mod leases;
 mod lines;
 mod mails;
 mod making;
