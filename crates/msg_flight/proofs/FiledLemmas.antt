@@ -1,5 +1,5 @@
 -- The messages of a table, and what is asked of it.
-use Rattle.std.proofs.Common.{◌≡◌, ◌≢◌, ℕ, ◌<◌, ◌≤◌, ◌+◌, Bool, true, false, cond, not, ◌||◌, eqb, ltb, List, [], ◌∷◌, ◌++◌, length, Option, Some, None, is_some, find, filter, slice_get, arith, refl, subst, sym, ap, ap₂, ◌∙◌}
+use Rattle.std.proofs.Common.{◌≡◌, ◌≢◌, ℕ, ◌<◌, ◌≤◌, ◌+◌, Bool, true, false, cond, not, ◌||◌, eqb, ltb, List, [], ◌∷◌, ◌++◌, length, Option, Some, None, is_some, find, filter, map, slice_get, arith, refl, subst, sym, ap, ap₂, ◌∙◌}
 use Rattle.std.specs.List.{AllByRecursion, list_any, filter_map}
 use Rattle.std.specs.Map.{lookup}
 use Rattle.std.specs.Option.{option_map, option_and_then}
@@ -13,7 +13,7 @@ use Rattle.std.proofs.lemmas.Bool.Decides.{nat_tests}
 use Rattle.mr_base.specs.declared.ids.MsgId.{MsgId}
 use Rattle.mr_base.specs.declared.messages.Message.{Message}
 use Rattle.msg_flight.specs.Messages.{first_number, follows, has_number}
-use Rattle.msg_flight.specs.Places.{IsFiled, message_at, messages_of}
+use Rattle.msg_flight.specs.Places.{IsFiled, message_at, messages_of, numbers_of}
 
 of_some : (o : Option Message) (k : ℕ) → option_map (λ m. m.id.0) o ≡ Some k → (m : Message) × (o ≡ Some m) × (m.id.0 ≡ k)
 of_some None k h = cc
@@ -94,3 +94,14 @@ filter_kept P test (x ∷ xs) h = elim (test x) as (λ b. AllByRecursion P (cond
 
 pub filed_above : (k : ℕ) (places : List (Option Message)) (es : List (ℕ × ℕ)) → AllByRecursion (IsFiled places) es → AllByRecursion (IsFiled places) (entries_between nat_cmp (Excluded k) Unbounded es)
 filed_above k places es h = filter_kept (IsFiled places) (λ e. range_contains nat_cmp (Excluded k) Unbounded e.0) es h
+
+-- the numbers of the table are those of the messages
+pub numbers_are : (places : List (Option Message)) (es : List (ℕ × ℕ)) → AllByRecursion (IsFiled places) es → numbers_of es ≡ map (λ m. m.id) (messages_of places es)
+numbers_are places [] all = refl
+numbers_are places (e ∷ es) all =
+    let m = filed_message places e all.0 in
+    let rest = numbers_are places es all.1 in
+    rw (messages_of-cons places e es m.0 m.1) (ap (λ (n : ℕ). named n ∷ numbers_of es) (sym m.2) ∙ ap (λ (ids : List MsgId). m.0.id ∷ ids) rest)
+  where
+    named : ℕ → MsgId
+    named n = record { 0 = n }

@@ -1,9 +1,10 @@
-use Rattle.std.specs.Prelude.{◌≡◌, ◌≢◌, ℕ, ◌+◌, ◌<◌, ◌≤◌, ⊤, List, [], ◌∷◌, length, Option, Some, None, slice_index_or}
+use Rattle.std.specs.Prelude.{◌≡◌, ◌≢◌, ℕ, ◌+◌, ◌<◌, ◌≤◌, ⊤, List, [], ◌∷◌, length, map, Option, Some, None, slice_index_or}
 use Rattle.std.specs.List.{AllByRecursion, filter_map}
 use Rattle.std.specs.List.Sorted.{IsStrictlySortedBy}
 use Rattle.std.specs.Map.{keys_of}
 use Rattle.std.specs.Option.{option_map}
 use Rattle.std.specs.Ordering.{nat_cmp}
+use Rattle.mr_base.specs.declared.ids.MsgId.{MsgId}
 use Rattle.mr_base.specs.declared.messages.Message.{Message}
 
 -- How the places, the free ones among them and the table of numbers and places stand together. No public clause
@@ -36,3 +37,7 @@ pub record IsSound (places : List (Option Message)) (free : List ℕ) (room : �
   pub free_places : AreFree places free
   pub counted : length table + length free ≡ length places
   pub noted : length places ≤ room
+
+-- the numbers of a table
+abbrev pub numbers_of : List (ℕ × ℕ) → List MsgId
+numbers_of table = map (λ e. record { 0 = e.0 }) table

@@ -1,9 +1,10 @@
 //! Messages in a vector of places, with a table from their numbers to their places.
 
-ghost use Rattle.std.specs.Prelude.{◌≡◌, ◌↔◌, ◌++◌, [], ◌∷◌, IsTrue, OnOk, OnErr, All, AllPairs, length, max, find, filter, not, ◌<◌, slice_set, vec_len};
+ghost use Rattle.std.specs.Prelude.{◌≡◌, ◌↔◌, ◌++◌, [], ◌∷◌, IfOk, IsTrue, OnOk, OnErr, All, AllPairs, length, map, max, find, filter, not, ◌<◌, slice_set, vec_len};
 ghost use Rattle.msg_flight.specs.Messages.{HasNumberBelow, IsInFlight, Precedes, first_number, follows, has_number};
+ghost use Rattle.msg_flight.specs.Places.{numbers_of};
 
-use mr_base::{Memory, Message, MsgId};
+use mr_base::{ListOf, Memory, Message, MsgId};
 use std::alloc::Global;
 use std::collections::BTreeMap;
 use std::marker::Model;
@@ -95,6 +96,13 @@ impl Flight {
         }
     }
 
+    /// The numbers of the messages, in their order.
+    pub fn numbers(&self, alloc: Global) -> Result<ListOf<MsgId>, Memory>
+        ensures { IfOk result (λ numbers. numbers ≡ map (λ m. m.id) self.now.messages) }
+    {
+        numbers_in(alloc, &self.table)
+    }
+
     /// How many messages are in flight.
     pub fn len(&self) -> u64
         ensures count { result ≡ length self.now.messages }
@@ -139,4 +147,15 @@ fn put_at(places: &mut Vec<Option<Message>>, place: usize, m: Message)
     ensures { places.new.items ≡ slice_set places.old.items place (Some m) }
 {
     places[place] = Some(m);
+}
+
+/// The numbers of a table.
+fn numbers_in(alloc: Global, table: &BTreeMap<u64, usize>) -> Result<ListOf<MsgId>, Memory>
+    ensures { IfOk result (λ numbers. numbers ≡ numbers_of table.now.entries) }
+{
+    let mut numbers = ListOf::new(alloc);
+    for (number, _) in table {
+        numbers.push(MsgId(*number))?;
+    }
+    Ok(numbers)
 }

@@ -75,6 +75,13 @@ impl Hints {
         Ok(())
     }
 
+    /// How many ranges there are.
+    pub fn len(&self) -> usize
+        ensures { result ≡ length self.now }
+    {
+        self.by_place.len()
+    }
+
     /// The hint of the range at a place.
     pub fn at(&self, place: usize) -> Hint
         requires { place < length self.now }

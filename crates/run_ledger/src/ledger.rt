@@ -1,6 +1,7 @@
 //! The journal of a run with the lines that it comes from.
 
-ghost use Rattle.std.specs.Prelude.{◌≡◌, ◌+◌, ◌-◌, ◌<◌, ◌≤◌, [], ◌∷◌, OnOk, OnErr, length, option_copied, reverse};
+ghost use Rattle.std.specs.Prelude.{◌≡◌, ◌+◌, ◌-◌, ◌<◌, ◌≤◌, [], ◌∷◌, ◌++◌, OnOk, OnErr, length, option_copied, reverse};
+ghost use Rattle.run_ledger.specs.LedgerValue.{made_all};
 ghost use Rattle.run_words.specs.History.{Ran, Ticked, Made, journal_of};
 ghost use Rattle.run_words.specs.Steps as steps;
 
@@ -110,6 +111,22 @@ impl Ledger {
         self.entries.push_reserved(made);
         self.behind += 1;
         self.has_entry = true;
+    }
+
+    /// Entries are made, which are given oldest first. Nothing has happened after want of memory.
+    pub fn write_all(&mut self, made: Vec<JournalEntry>) -> Result<(), Memory>
+        ensures made { OnOk result (self.new.history ≡ made_all made.items ++ self.old.history) }
+        ensures err { OnErr result (self.new.history ≡ self.old.history) }
+    {
+        if made.is_empty() {
+            return Ok(());
+        }
+        let mut made = made;
+        let count = made.len();
+        self.entries.append(&mut made)?;
+        self.behind += count;
+        self.has_entry = true;
+        Ok(())
     }
 
     /// The entries of the journal, oldest first.

@@ -1,0 +1,5 @@
+use Rattle.sim_nodes.proofs.ReaderLemmas.{runs_is}
+use Rattle.sim_nodes.proofs.nodes.Nodes.is_running.Goals as goal
+
+pub returns : goal.returns
+returns c = runs_is c.self.inside.state c.self.inside.ended c.args.self.now c.self.view_is c.self.invariant c.requires.«open» c.args.node c.index.result.now c.requires.there c.index.ensures
