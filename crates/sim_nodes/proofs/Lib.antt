@@ -6,12 +6,14 @@ pub mod EntryLemmas
 pub mod FirstLemmas
 pub mod FlightLemmas
 pub mod HandledKeep
+pub mod HereKeep
 pub mod LeaseLaws
 pub mod LeaseLemmas
 pub mod LeaseTies
 pub mod LineLemmas
 pub mod MakingLemmas
 pub mod MemberLemmas
+pub mod NoRangeLemmas
 pub mod NodeAt
 pub mod QuietLemmas
 pub mod Quorum
@@ -19,4 +21,5 @@ pub mod RangeLemmas
 pub mod ReaderLemmas
 pub mod ReplicaThere
 pub mod ShowLemmas
+pub mod WayLemmas
 pub mod Written

@@ -26,7 +26,7 @@ use Rattle.replica_states.proofs.RangeLemmas.{plan_made}
 use Rattle.replica_states.specs.RangeTies.{planned}
 use Rattle.run_words.specs.Logs.{applied, log_of}
 use Rattle.run_words.specs.Nodes.{boot}
-use Rattle.run_words.specs.Ranges.{has_number, replicas_of}
+use Rattle.run_words.specs.Ranges.{has_number, is_global, replicas_of}
 use Rattle.run_words.specs.Setup.{RangeSetup}
 use Rattle.sim_nodes.proofs.NodeAt.{runs_at}
 use Rattle.sim_nodes.proofs.RangeLemmas.{numbered, range_tied}
@@ -82,3 +82,25 @@ quorum_of law s h j r d t made is most =
     (law r.voters (is_running (the_setup s) h) s.running (front_all IsNode r.voters r.others sound.numbered) (front_pairs ◌≢◌ r.voters r.others sound.distinct) runs).0
     (ap (λ (v : NodeSet). has_majority v s.running) (sym sound.voters) ∙ most) in
     subst (λ (ns : List NodeId). length ns < 2 * length (filter (is_running (the_setup s) h) ns)) (sym voters) half
+
+-- the range of a number is planned as it has been made
+module _ (s : State) (h : History) (t : IsTiedTo h s) (j : RangeId) (made : log_of (the_setup s) h j ≢ []) (r : RangeValue) (is : r ≡ get_or s.ranges.items (j.0 - 1) r) where
+  pub planned_at : find (has_number j) (the_setup s).ranges ≡ Some (planned r)
+  planned_at =
+      plan_made (log_of (the_setup s) h) (applied (the_setup s) h) (boot (the_setup s) h) (the_setup s).ranges s.ranges.items (numbered s h t) t.ranges_are j r made
+      ∙ ap (λ (x : RangeValue). Some (planned x)) (sym is)
+
+  pub voters_at : voters_of (the_setup s) h j ≡ r.voters
+  voters_at = ap (λ (o : Option RangeSetup). option_map_or (λ range. range.voters) o []) planned_at
+
+  pub global_at : is_global (the_setup s) h j ≡ r.is_global
+  global_at = ap (λ (o : Option RangeSetup). option_map_or (λ range. range.is_global) o false) planned_at
+
+  pub voter_among : (d : NodeState) (n : NodeId) → Contains (voters_of (the_setup s) h j) n → (is_running (the_setup s) h n ≡ true) ↔ IsMember s.running n
+  voter_among d n c =
+      let v : Contains r.voters n = subst (λ (ns : List NodeId). Contains ns n) voters_at c in
+      let inside : v.0 < length (r.voters ++ r.others) = omega (arith, v.1, length-append r.voters r.others) in
+      let held : replicas_of (the_setup s) h j ≡ r.voters ++ r.others = ap (λ (o : Option RangeSetup). option_map_or (λ range. range.voters ++ range.others) o []) planned_at in
+      let holds : Contains (replicas_of (the_setup s) h j) n =
+        subst (λ (ns : List NodeId). Contains ns n) (sym held) (v.0, inside, front_at r.voters r.others v.0 n v.1 ∙ v.2) in
+      among s h n d t (replica_there s.stage h n j t.staged holds)

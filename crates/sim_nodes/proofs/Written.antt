@@ -1,4 +1,4 @@
-use Rattle.std.proofs.Common.{◌≡◌, List, [], ◌∷◌, refl, sym, ap, ◌∙◌, subst}
+use Rattle.std.proofs.Common.{◌≡◌, List, [], ◌∷◌, ◌++◌, refl, sym, ap, ◌∙◌, subst}
 use Rattle.journal.specs.declared.entries.JournalEntry.{JournalEntry}
 use Rattle.run_ledger.specs.LedgerValue.{LedgerValue}
 use Rattle.run_words.specs.History.{History, Item, Made}
@@ -58,4 +58,14 @@ made_two s t same mid one two x y less least r w v tied =
       stage = same;
       history = e;
       tied = subst (λ (h : History). IsTiedTo h (with_ledger t two)) (sym e) (tied_with t two (Made y ∷ Made x ∷ past s) tied);
+    }
+
+-- what was changed beside the ledger is tied with all the items of a call
+pub made_items : (s t : State) → t.stage ≡ s.stage → (l : LedgerValue) (items : History) → l.history ≡ items ++ past s → IsTiedTo (items ++ past s) t
+    → HasMade items s (record t { ledger = l })
+made_items s t same l items e tied =
+    record {
+      stage = same;
+      history = e;
+      tied = subst (λ (h : History). IsTiedTo h (with_ledger t l)) (sym e) (tied_with t l (items ++ past s) tied);
     }

@@ -1,8 +1,9 @@
-use Rattle.std.specs.Prelude.{List, None, Option, Some, [], length, ℕ, ◌++◌, ◌<◌, ◌∷◌, ◌≡◌}
+use Rattle.std.specs.Prelude.{Contains, List, None, Option, Some, [], length, true, ℕ, ◌++◌, ◌∷◌, ◌≡◌, ◌↔◌}
 use Rattle.journal.specs.declared.entries.How.TheVariants as how
 use Rattle.journal.specs.declared.entries.How.{How}
 use Rattle.journal.specs.declared.entries.JournalEntry.TheVariants as entry
 use Rattle.journal.specs.declared.entries.JournalEntry.{JournalEntry}
+use Rattle.mr_base.specs.Nodes.{IsMember}
 use Rattle.mr_base.specs.declared.ids.NodeId.{NodeId}
 use Rattle.mr_base.specs.declared.messages.Reply.TheVariants as replies
 use Rattle.mr_base.specs.declared.messages.Reply.{Reply}
@@ -10,6 +11,7 @@ use Rattle.mr_base.specs.declared.messages.Request.TheVariants as requests
 use Rattle.mr_base.specs.declared.messages.Request.{Request}
 use Rattle.node_states.specs.Appends.{appends}
 use Rattle.range_log.specs.declared.entries.Entry.{Entry}
+use Rattle.range_replicas.specs.Voters.{set_of}
 use Rattle.range_rules.specs.Added.{AreLicensed}
 use Rattle.range_server.specs.Handling.{IsAnswer, Licenses}
 use Rattle.range_server.specs.Refusals.{IsByHolder}
@@ -20,7 +22,8 @@ use Rattle.run_words.specs.Askers.{range_asked}
 use Rattle.run_words.specs.Clocks.{reading}
 use Rattle.run_words.specs.History.{History, Made}
 use Rattle.run_words.specs.Logs.{applied, log_of, prefix}
-use Rattle.run_words.specs.Nodes.{boot}
+use Rattle.run_words.specs.Nodes.{boot, is_running}
+use Rattle.run_words.specs.Ranges.{is_global, voters_of}
 use Rattle.run_words.specs.Setup.{Setup}
 
 -- What is recorded where a request is handled. (Leaseholders, intents and records: Taft et al., SIGMOD 2020; follower
@@ -48,6 +51,9 @@ pub record HasHandled (setup : Setup) (h : History) (n : NodeId) (q : Request) (
   pub log_is : found.log.entries ≡ log_of setup h (range_asked q)
   pub clock_is : found.now.clock ≡ reading setup h n
   pub settings_are : found.now.settings ≡ setup.settings
+  pub voters_are : found.log.voters ≡ set_of (voters_of setup h (range_asked q))
+  pub running_are : (m : NodeId) → Contains (voters_of setup h (range_asked q)) m → (is_running setup h m ≡ true) ↔ IsMember found.now.running m
+  pub global_is : found.server.is_global ≡ is_global setup h (range_asked q)
   pub by : Option Right
   pub added : List Entry
   pub answer : IsAnswer found q reply by (added ++ log_of setup h (range_asked q)) added

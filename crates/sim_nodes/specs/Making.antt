@@ -1,11 +1,12 @@
-use Rattle.std.specs.Prelude.{[], length, ◌+◌, ◌∷◌, ◌≡◌}
+use Rattle.std.specs.Prelude.{[], length, ℕ, ◌+◌, ◌++◌, ◌∷◌, ◌≡◌}
 use Rattle.journal.specs.declared.entries.JournalEntry.TheVariants as entry
 use Rattle.mr_base.specs.declared.ids.RangeId.{RangeId}
 use Rattle.range_log.specs.declared.entries.Entry.TheVariants as log
 use Rattle.range_log.specs.declared.entries.Lease.{Lease}
 use Rattle.replica_states.specs.Making.{IsMaking}
-use Rattle.run_words.specs.History.{Item, Made}
-use Rattle.sim_nodes.specs.Tied.{HasMade, past, the_setup}
+use Rattle.run_words.specs.History.{History, Item, Made}
+use Rattle.sim_nodes.specs.Begun.{AreLeaseItems}
+use Rattle.sim_nodes.specs.Tied.{HasMade, IsTied, past, the_setup}
 use Rattle.sim_nodes.specs.declared.state.State.{State}
 
 -- The first lease of a range is appended.
@@ -19,3 +20,13 @@ pub record HasMadeRange (old new : State) : Type 0 where
   pub made : HasMade (first_lease range lease ∷ []) old new
   pub count : length new.ranges.items ≡ length old.ranges.items + 1
   pub making : IsMaking (the_setup new) (past new) (length old.ranges.items + 1)
+
+-- So many ranges have begun.
+pub record IsOnTheWay (old now : State) (place : ℕ) : Type 0 where
+  pub stage : now.stage ≡ old.stage
+  pub tied : IsTied now
+  pub count : length now.ranges.items ≡ place
+  pub making : IsMaking (the_setup now) (past now) place
+  pub items : History
+  pub history : past now ≡ items ++ past old
+  pub leases : AreLeaseItems items

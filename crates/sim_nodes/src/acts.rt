@@ -1,6 +1,6 @@
 //! Lines and beginnings, as the layers above ask for them.
 
-ghost use Rattle.std.specs.Prelude.{◌≡◌, ◌≢◌, ◌+◌, ◌∷◌, [], IfOk, OnErr, OnOk, Some, false, length, min, true};
+ghost use Rattle.std.specs.Prelude.{◌≡◌, ◌≢◌, ℕ, ◌+◌, ◌∷◌, [], IfOk, OnErr, OnOk, Some, false, length, min, true};
 ghost use Rattle.journal.specs.declared.entries.JournalEntry.TheVariants as made;
 ghost use Rattle.journal.specs.declared.events.Event.TheVariants as events;
 ghost use Rattle.node_states.specs.Stage.{IsStage};
@@ -14,6 +14,7 @@ ghost use Rattle.run_words.specs.Ranges.{HoldsReplica};
 ghost use Rattle.run_words.specs.Steps.{event_of, has_ticked};
 ghost use Rattle.run_words.specs.Transactions.{attempts};
 ghost use Rattle.sim_nodes.specs.Applying.{Applies};
+ghost use Rattle.sim_nodes.specs.Begun.{HasBegun};
 ghost use Rattle.sim_nodes.specs.LeaseMoves.{MovesLease};
 ghost use Rattle.sim_nodes.specs.NodesValue.{ended_as, setup, with_items};
 ghost use Rattle.sim_nodes.specs.Tied.{IsThere};
@@ -88,6 +89,20 @@ impl Nodes {
     {
         self.ended = true;
         self.state.acquire(range, node)?;
+        self.ended = false;
+        Ok(())
+    }
+
+    /// Makes the ranges behind the `begin` line, in the order of their numbers: each begins with its first lease.
+    pub fn begin(&mut self) -> Result<(), Memory>
+        requires open { self.old.ended ≡ false }
+        requires first { (line : ℕ) × (self.old.history ≡ Ran line events.Begin ∷ []) }
+        ensures begun { OnOk result (HasBegun self.old self.new) }
+        ensures stage { self.new.stage ≡ self.old.stage }
+        ensures err { OnErr result (self.new.ended ≡ true) }
+    {
+        self.ended = true;
+        self.state.begin(self.alloc)?;
         self.ended = false;
         Ok(())
     }

@@ -1,8 +1,9 @@
 //! The ranges are made at the `begin` line.
 
 ghost use Rattle.std.specs.Prelude.{◌≡◌, ◌<◌, ◌∷◌, [], OnErr, OnOk, length};
+ghost use Rattle.node_states.specs.Placed.{KeepsLaws};
 ghost use Rattle.replica_states.specs.Making.{IsMaking};
-ghost use Rattle.sim_nodes.specs.Making.{HasMadeRange};
+ghost use Rattle.sim_nodes.specs.Making.{HasMadeRange, IsOnTheWay};
 ghost use Rattle.sim_nodes.specs.Tied.{IsTied, IsUnrecorded, past, the_setup};
 
 use crate::hints::add_first;
@@ -14,6 +15,21 @@ use replica_states::first_range;
 use std::alloc::Global;
 
 impl State {
+    /// Makes all ranges behind the `begin` line, in the order of their numbers, each of which begins with its first lease.
+    pub fn begin(&mut self, alloc: Global) -> Result<(), Memory>
+        requires tied { IsTied self.old }
+        requires none { length self.old.ranges.items ≡ 0 }
+        requires making { IsMaking (the_setup self.old) (past self.old) 0 }
+        ensures begun { OnOk result (IsOnTheWay self.old self.new (length self.old.stage.ranges)) }
+        ensures stage { self.new.stage ≡ self.old.stage }
+        ensures laws { KeepsLaws (the_setup self.new) (past self.new) }
+    {
+        for place in 0..self.stage.ranges.len() {
+            self.make_range(alloc, place)?;
+        }
+        Ok(())
+    }
+
     /// Makes the next range, which begins with its first lease.
     pub fn make_range(&mut self, alloc: Global, place: usize) -> Result<(), Memory>
         requires tied { IsTied self.old }
