@@ -1,4 +1,4 @@
-use Rattle.std.proofs.Common.{◌∙◌, ◌≡◌, true, sym}
+use Rattle.std.proofs.Common.{◌∙◌, ◌≡◌, true, sym, arith}
 use Rattle.sim_nodes.proofs.LeaseLaws.{replica_node}
 use Rattle.sim_nodes.proofs.LeaseLemmas.{at_line}
 use Rattle.sim_nodes.proofs.NodeAt.{is_inside, reading_at, runs_at}
@@ -21,7 +21,8 @@ pub index-node-requires : goal.index-node-requires
 index-node-requires c =
     let there = replica_node c.args.self.now c.requires.tied c.args.number c.requires.made c.index-range.result.now c.index-range.ensures c.in-Some.place c.lease.result.holder
         c.in-Some.ensures.0 c.in-Some.ensures.1 in
-    is_inside c.args.self.now (past c.args.self.now) c.lease.result.holder c.requires.tied there
+    let inside = is_inside c.args.self.now (past c.args.self.now) c.lease.result.holder c.requires.tied there in
+    omega (arith, inside, c.args.self.now.nodes.ok)
 
 pub refuse_lease-requires-then-not-node-clause-line : goal.refuse_lease-requires-then-not-node-clause-line
 refuse_lease-requires-then-not-node-clause-line c =
