@@ -24,14 +24,15 @@ use Rattle.run_laws.specs.Appended.{IsActing}
 use Rattle.run_words.specs.Clocks.{reading}
 use Rattle.run_words.specs.Logs.{applied, holder_of, log_of, prefix}
 use Rattle.run_words.specs.Nodes.{boot, is_running}
-use Rattle.run_words.specs.Ranges.{HasQuorum, has_number, range_of, voters_of}
+use Rattle.run_words.specs.Ranges.{HasQuorum, has_number, range_of, replicas_of, voters_of}
 use Rattle.run_words.specs.Setup.{RangeSetup}
 use Rattle.sim_nodes.proofs.LeaseTies.{IsAppender}
 use Rattle.sim_nodes.proofs.MemberLemmas.{member_of}
 use Rattle.sim_nodes.proofs.Quorum.{front_all, quorum_of}
 use Rattle.sim_nodes.proofs.RangeLemmas.{applied_there, boot_there, log_is, numbered, range_tied}
+use Rattle.sim_nodes.proofs.ReplicaThere.{replica_there}
 use Rattle.sim_nodes.specs.LeaseMoves.{Gives, IsAskAt, lease_event}
-use Rattle.sim_nodes.specs.Tied.{IsTied, past, the_setup}
+use Rattle.sim_nodes.specs.Tied.{IsThere, IsTied, past, the_setup}
 use Rattle.sim_nodes.specs.declared.leases.Ask.{Ask}
 use Rattle.sim_nodes.specs.declared.leases.Ask.TheVariants as asks
 use Rattle.sim_nodes.specs.declared.state.State.{State}
@@ -41,6 +42,22 @@ pub leased_grown : (ask : Ask) (sc : Scene) (lease : Lease) (after : List Entry)
 leased_grown asks.Acquire sc lease after g = g.appended
 leased_grown (asks.Transfer to b) sc lease after g = g.appended
 leased_grown asks.Extend sc lease after g = g.appended
+
+-- a replica's node is there
+pub replica_node : (s : State) (t : IsTied s) (j : RangeId) (made : log_of (the_setup s) (past s) j ≢ []) (r : RangeValue)
+    (is : r ≡ get_or s.ranges.items (j.0 - 1) r) (place : ℕ) (n : NodeId) → place < length r.servers → (server_at place r).node ≡ n → IsThere s.stage n
+replica_node s t j made r is place n there at =
+    let sound = (range_tied s (past s) t j made r is).sound in
+    let node_at : Standing → NodeId = λ x. x.node in
+    let found : find (has_number j) (the_setup s).ranges ≡ Some (planned r)
+    = plan_made (log_of (the_setup s) (past s)) (applied (the_setup s) (past s)) (boot (the_setup s) (past s)) (the_setup s).ranges s.ranges.items (numbered s (past s) t) t.ranges_are j r made
+        ∙ ap (λ (x : RangeValue). Some (planned x)) (sym is) in
+    let held : replicas_of (the_setup s) (past s) j ≡ r.voters ++ r.others
+    = ap (λ (o : Option RangeSetup). option_map_or (λ range. range.voters ++ range.others) o []) found in
+    let among : Contains (map node_at r.servers) n
+    = (place, omega (arith, there, length-map r.servers node_at), get_or-map node_at r.servers place nobody n there ∙ at) in
+    replica_there s.stage (past s) n j t.staged
+    (subst (λ (ns : List NodeId). Contains ns n) (sym held) (subst (λ (ns : List NodeId). Contains ns n) sound.nodes among))
 
 module _ (law : MajorityIsMoreThanHalf) (s : State) (t : IsTied s) (j : RangeId) (made : log_of (the_setup s) (past s) j ≢ []) (r : RangeValue)
     (is : r ≡ get_or s.ranges.items (j.0 - 1) r) (place : ℕ) (n : NodeId) (there : place < length r.servers) (at : (server_at place r).node ≡ n)

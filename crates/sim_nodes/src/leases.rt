@@ -3,6 +3,7 @@
 ghost use Rattle.std.specs.Prelude.{◌≡◌, ◌≢◌, ◌<◌, ◌∷◌, OnErr, OnOk, IfOk, [], false, length, true};
 ghost use Rattle.journal.specs.declared.entries.JournalEntry.TheVariants as made;
 ghost use Rattle.journal.specs.declared.events.Event.TheVariants as events;
+ghost use Rattle.mr_base.specs.declared.ids.NodeId.{NodeId};
 ghost use Rattle.range_replicas.specs.RangeValue.{IsChangedAt, scene_at, server_at};
 ghost use Rattle.range_replicas.specs.Sound.{IsSound};
 ghost use Rattle.range_server.specs.Leases.{HasAnswered, HasRefused};
@@ -161,5 +162,38 @@ impl State {
         };
         let clock = self.nodes[(node.0 - 1) as usize].clock.reading();
         self.move_lease(number, node, place, Ask::Acquire, clock)
+    }
+
+    /// The node that holds the lease of a range, where it runs, hands it on or extends it, at the line that says so.
+    fn move_held(&mut self, number: RangeId, ask: Ask) -> Result<(), Memory>
+        requires tied { IsTied self.old }
+        requires line { (node : NodeId) → IsFirstAt (past self.old) (lease_event ask number node) }
+        requires made { log_of (the_setup self.old) (past self.old) number ≢ [] }
+        requires to { IsAskAt ask (the_setup self.old) (past self.old) }
+        ensures made { OnOk result ((items : History) × MovesLease number items × HasMade items self.old self.new) }
+        ensures err { OnErr result (IsUnrecorded self.old self.new) }
+    {
+        let range = &self.ranges[(number.0 - 1) as usize];
+        let holder = range.log().lease().holder;
+        let Some(place) = range.place_of(holder) else {
+            return self.refuse_lease(number, LeaseWhy::NotHolder);
+        };
+        let node = &self.nodes[(holder.0 - 1) as usize];
+        if !node.runs {
+            return self.refuse_lease(number, LeaseWhy::NotHolder);
+        }
+        let clock = node.clock.reading();
+        self.move_lease(number, holder, place, ask, clock)
+    }
+
+    /// The holder of the lease of a range extends it, at the line that says so.
+    pub fn extend(&mut self, number: RangeId) -> Result<(), Memory>
+        requires tied { IsTied self.old }
+        requires line { IsFirstAt (past self.old) (events.LeaseExtend number) }
+        requires made { log_of (the_setup self.old) (past self.old) number ≢ [] }
+        ensures made { OnOk result ((items : History) × MovesLease number items × HasMade items self.old self.new) }
+        ensures err { OnErr result (IsUnrecorded self.old self.new) }
+    {
+        self.move_held(number, Ask::Extend)
     }
 }
