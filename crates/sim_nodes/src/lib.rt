@@ -14,6 +14,7 @@ mod lines;
 mod mails;
 mod nodes;
 mod readers;
+mod shown_states;
 mod shows;
 mod state;
 
