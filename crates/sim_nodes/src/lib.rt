@@ -14,7 +14,6 @@ mod lines;
 mod mails;
 mod nodes;
 mod readers;
-mod shown_states;
 mod shows;
 mod state;
 
