@@ -1,25 +1,24 @@
 -- What the words say behind entries that a request appends.
-use Rattle.std.proofs.Common.{◌≡◌, ℕ, zero, suc, ◌<◌, ◌+◌, ◌-◌, ◌≤◌, Bool, true, false, List, [], ◌∷◌, ◌++◌, length, drop, max, refl, sym, ap, ◌∙◌, subst, arith, Some, None, inl, inr, ⊎_elim, length-append}
-use Rattle.std.specs.Prelude.{◌⊎◌, ◌==◌, ◌||◌, if◌then◌else◌, IsSome, Option}
+use Rattle.std.proofs.Common.{◌≡◌, ℕ, ◌+◌, ◌-◌, ◌≤◌, Bool, true, false, List, [], ◌∷◌, ◌++◌, length, max, refl, ap, ◌∙◌, arith, Some, None, inl, ⊎_elim, length-append}
+use Rattle.std.specs.Prelude.{◌==◌, ◌||◌, if◌then◌else◌, IsSome, Option}
 use Rattle.mr_base.specs.declared.ids.MsgId.{MsgId}
 use Rattle.mr_base.specs.declared.ids.NodeId.{NodeId}
 use Rattle.mr_base.specs.declared.ids.RangeId.{RangeId}
 use Rattle.range_log.specs.Facts.{first_entries, lease_of}
 use Rattle.range_log.specs.declared.entries.Entry.{Entry}
 use Rattle.range_log.specs.declared.entries.Entry.TheVariants as log
-use Rattle.range_log.specs.declared.entries.Lease.{Lease}
 use Rattle.journal.specs.declared.entries.JournalEntry.TheVariants as entry
 use Rattle.journal.specs.declared.events.Event.{Event}
 use Rattle.journal.specs.declared.events.Event.TheVariants as events
 use Rattle.node_states.specs.Appends.{AreChanges, IsChange, appends}
-use Rattle.node_states.specs.Placed.{IsAppendPlaced, IsPlacedItem, KeepsLaws}
+use Rattle.node_states.specs.Placed.{IsAppendPlaced, KeepsLaws}
 use Rattle.run_laws.specs.Appended.{IsByHolder}
-use Rattle.run_laws.specs.Order.{EntryOrder, IsAppendDue}
+use Rattle.run_laws.specs.Order.{IsAppendDue}
 use Rattle.run_laws.specs.OrderEvents.{ActsAt, DrainsAt, IsInStep}
 use Rattle.run_laws.specs.Places.{stepping}
-use Rattle.run_words.specs.History.{History, Item, Made, Ran, Ticked}
+use Rattle.run_words.specs.History.{History, Made, Ran, Ticked}
 use Rattle.run_words.specs.Logs.{actor, actor_in, applied, appender_at, holder_of, is_node_of, log_of, makes_ranges, prefix}
-use Rattle.run_words.specs.Nodes.{boot, is_running}
+use Rattle.run_words.specs.Nodes.{is_running}
 use Rattle.run_words.specs.Ranges.{HasQuorum, range_of}
 use Rattle.run_words.specs.Serving.{IsHolder}
 use Rattle.run_words.specs.Setup.{Setup}

@@ -1,13 +1,10 @@
-use Rattle.std.proofs.Common.{◌≡◌, ◌≢◌, ℕ, zero, suc, Bool, true, false, List, [], ◌∷◌, Option, Some, None, refl, sym, ap, ◌∙◌, subst, map, length, get_or, arith}
-use Rattle.std.specs.Prelude.{◌+◌, ◌<◌, ◌≤◌, ◌==◌, if◌then◌else◌, slice_index_or}
+use Rattle.std.proofs.Common.{◌≡◌, ◌≢◌, ℕ, zero, suc, Bool, false, List, [], ◌∷◌, Option, Some, refl, sym, ap, ◌∙◌, subst, map, length, get_or, arith}
+use Rattle.std.specs.Prelude.{◌+◌, ◌<◌, if◌then◌else◌}
 use Rattle.std.specs.List.{All, find}
 use Rattle.std.specs.Option.{option_map_or}
-use Rattle.std.proofs.lemmas.Bool.{eqb-true}
 use Rattle.std.proofs.lemmas.List.{length-map}
 use Rattle.hlc.specs.Readings.{nothing}
-use Rattle.mr_base.specs.declared.ids.NodeId.{NodeId}
 use Rattle.mr_base.specs.declared.nodes.NodeSet.{NodeSet}
-use Rattle.mr_base.specs.declared.timestamps.Reading.{Reading}
 use Rattle.node_states.proofs.NodeLemmas.{itself, other_test}
 use Rattle.node_states.specs.Moves.{first_node}
 use Rattle.node_states.specs.Stage.{AreNumbered, node_setup, setup_of}

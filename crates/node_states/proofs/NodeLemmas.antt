@@ -1,10 +1,8 @@
-use Rattle.std.proofs.Common.{◌≡◌, ◌≢◌, ℕ, zero, suc, Bool, true, false, List, [], ◌∷◌, Option, Some, None, inl, inr, refl, sym, ap, ◌∙◌, subst, map, length, set, get_or, arith}
-use Rattle.std.specs.Prelude.{◌+◌, ◌<◌, ◌==◌, nat_lt, if◌then◌else◌, slice_index_or, slice_set}
-use Rattle.std.specs.List.{All}
+use Rattle.std.proofs.Common.{◌≡◌, ◌≢◌, ℕ, zero, suc, Bool, true, false, List, [], ◌∷◌, Option, Some, inl, inr, refl, sym, ap, ◌∙◌, subst, map, length, set, get_or, arith}
+use Rattle.std.specs.Prelude.{◌+◌, ◌<◌, ◌==◌, if◌then◌else◌}
 use Rattle.std.proofs.lemmas.Bool.{eqb-true}
-use Rattle.hlc.specs.Readings.{IsEarlier, greater, next_of, reading_lt}
+use Rattle.hlc.specs.Readings.{IsEarlier, greater, reading_lt}
 use Rattle.journal.specs.declared.entries.JournalEntry.TheVariants as entry
-use Rattle.mr_base.specs.Timestamps.{of_reading}
 use Rattle.mr_base.specs.declared.ids.AttemptId.{AttemptId}
 use Rattle.mr_base.specs.declared.ids.MsgId.{MsgId}
 use Rattle.mr_base.specs.declared.ids.NodeId.{NodeId}

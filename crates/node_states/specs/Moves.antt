@@ -2,7 +2,6 @@ use Rattle.std.specs.Prelude.{Bool, None, Option, Some, false, if◌then◌else�
 use Rattle.hlc.specs.Readings.{nothing}
 use Rattle.journal.specs.declared.events.Event.TheVariants as events
 use Rattle.journal.specs.declared.events.Event.{Event}
-use Rattle.mr_base.specs.declared.ids.NodeId.{NodeId}
 use Rattle.mr_base.specs.declared.timestamps.Reading.{Reading}
 use Rattle.node_states.specs.declared.stage.NodePlan.{NodePlan}
 use Rattle.node_states.specs.declared.moves.Move.TheVariants as moves

@@ -1,5 +1,5 @@
 use Rattle.std.specs.List.{Contains}
-use Rattle.std.specs.Prelude.{IsSome, List, Option, Some, length, true, ℕ, ⊤, ◌+◌, ◌≡◌, ◌≢◌, ◌⊎◌}
+use Rattle.std.specs.Prelude.{IsSome, Option, Some, length, ℕ, ⊤, ◌+◌, ◌≡◌, ◌≢◌, ◌⊎◌}
 use Rattle.journal.specs.declared.entries.JournalEntry.TheVariants as entry
 use Rattle.journal.specs.declared.entries.Shown.TheVariants as shown
 use Rattle.journal.specs.declared.entries.Shown.{Shown}

@@ -1,8 +1,7 @@
-use Rattle.std.specs.Prelude.{All, List, None, [], map, true, ℕ, ⊤, ◌+◌, ◌<◌, ◌++◌, ◌∷◌, ◌≡◌, ◌≢◌, ◌≤◌, length}
+use Rattle.std.specs.Prelude.{All, List, None, [], map, true, ℕ, ⊤, ◌+◌, ◌++◌, ◌∷◌, ◌≡◌, ◌≢◌, ◌≤◌, length}
 use Rattle.descriptors.specs.Sound.{AreDistinct}
 use Rattle.hlc.specs.Readings.{nothing}
 use Rattle.mr_base.specs.declared.ids.NodeId.{NodeId}
-use Rattle.mr_base.specs.declared.ids.RangeId.{RangeId}
 use Rattle.node_states.specs.declared.stage.NodePlan.{NodePlan}
 use Rattle.node_states.specs.declared.stage.RangePlan.{RangePlan}
 use Rattle.node_states.specs.declared.stage.Stage.{Stage}

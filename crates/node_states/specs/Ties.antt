@@ -1,5 +1,5 @@
 use Rattle.std.specs.List.{All}
-use Rattle.std.specs.Prelude.{Bool, List, None, Option, Some, [], length, map, true, ℕ, ⊤, ◌↔◌, ◌≡◌, ◌≢◌, ◌≤◌}
+use Rattle.std.specs.Prelude.{Bool, List, Option, Some, [], length, map, true, ℕ, ⊤, ◌↔◌, ◌≡◌, ◌≢◌, ◌≤◌}
 use Rattle.journal.specs.declared.entries.Shown.TheVariants as shown
 use Rattle.journal.specs.declared.entries.Shown.{Shown}
 use Rattle.mr_base.specs.Nodes.{IsMember}

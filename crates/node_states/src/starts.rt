@@ -34,13 +34,20 @@ pub fn start_at(r: Reading, attempt: AttemptId) -> Ts
 }
 
 /// The limit of a transaction that starts so at this line: a wall for one of the present, none for one of the past.
-pub fn limit_at(event: Option<&Event>, start: Ts, settings: &Settings) -> Result<Option<u64>, Memory>
+pub fn limit_at(
+    event: Option<&Event>,
+    start: Ts,
+    settings: &Settings,
+) -> Result<Option<u64>, Memory>
     ensures { IfOk result (λ limit. limit ≡ limit_at (option_copied event.entry) start settings.now) }
 {
     match event {
-        Some(Event::Txn {
-            kind: Kind::Now, ..
-        }) => match start.wall.checked_add(settings.max_offset) {
+        Some(
+            Event::Txn {
+                kind: Kind::Now,
+                ..
+            },
+        ) => match start.wall.checked_add(settings.max_offset) {
             Some(limit) => Ok(Some(limit)),
             None => Err(Memory),
         },

@@ -1,6 +1,6 @@
 -- One range is changed at one replica.
-use Rattle.std.proofs.Common.{◌≡◌, ◌≢◌, ℕ, zero, suc, ◌<◌, ◌+◌, ◌≤◌, Bool, true, false, List, [], ◌∷◌, ◌++◌, length, take, get_or, set, map, refl, sym, ap, ◌∙◌, subst, arith, Some, None, inl, inr, ⊎_elim}
-use Rattle.std.specs.Prelude.{◌⊎◌, ◌==◌, AllPairs, slice_index_or}
+use Rattle.std.proofs.Common.{◌≡◌, ◌≢◌, ℕ, zero, suc, ◌<◌, ◌+◌, ◌≤◌, List, [], ◌∷◌, length, take, get_or, set, map, refl, sym, ap, ◌∙◌, subst, arith, ⊎_elim}
+use Rattle.std.specs.Prelude.{◌⊎◌, AllPairs}
 use Rattle.std.specs.List.{All}
 use Rattle.std.proofs.lemmas.List.{get_or-map, get_or-set_other, get_or-set_same, length-map, length-set}
 use Rattle.mr_base.specs.declared.ids.NodeId.{NodeId}
@@ -10,7 +10,7 @@ use Rattle.node_states.specs.declared.stage.RangePlan.{RangePlan}
 use Rattle.node_states.specs.declared.stage.Stage.{Stage}
 use Rattle.range_log.specs.LogValue.{LogValue}
 use Rattle.range_log.specs.declared.entries.Entry.{Entry}
-use Rattle.range_replicas.specs.RangeValue.{RangeValue, replicas}
+use Rattle.range_replicas.specs.RangeValue.{RangeValue}
 use Rattle.range_replicas.specs.Sound.{IsSound}
 use Rattle.range_server.specs.declared.standing.Standing.{Standing}
 use Rattle.replica_states.specs.RangeTies.{AreRangesTied, IsRangeTied, IsReplicaTied, planned}
@@ -104,29 +104,29 @@ one_changed log new applied now boot plans ranges i p d c l s t numbered li lp s
             log_is = log_is;
             servers_are = all_set (IsReplicaTied now boot r.number) r.servers p s lp tied
                 (λ k e lk ne.
-                    let x : Standing = get_or r.servers k e in
-                    let was : IsReplicaTied applied boot r.number x = old.servers_are k e lk in
-                    let apart : x.node.0 ≢ s.node.0 = λ q. other_node r p k c e old.sound lp lk ne (q ∙ ap (λ (n : NodeId). n.0) node) in
-                    record { applied_is = was.applied_is ∙ sym (here x.node apart); boot_is = was.boot_is });
+                let x : Standing = get_or r.servers k e in
+                let was : IsReplicaTied applied boot r.number x = old.servers_are k e lk in
+                let apart : x.node.0 ≢ s.node.0 = λ q. other_node r p k c e old.sound lp lk ne (q ∙ ap (λ (n : NodeId). n.0) node) in
+                record { applied_is = was.applied_is ∙ sym (here x.node apart); boot_is = was.boot_is });
           })
           (λ k e lk ne.
-              let x : RangeValue = get_or ranges k e in
-              let was : IsRangeTied log applied boot x = t.each k e lk in
-              let at_k : x.number.0 ≡ 0 + k + 1 = range_number_at 0 ranges k e numbered lk in
-              let at_i : r.number.0 ≡ 0 + i + 1 = range_number_at 0 ranges i d numbered li in
-              let apart : x.number.0 ≢ r.number.0 = λ q. ne (omega (arith, at_k, at_i, q)) in
-              record {
-                sound = was.sound;
-                log_is = was.log_is ∙ sym (logs x.number apart);
-                servers_are = λ m b lm.
-                    let y : IsReplicaTied applied boot x.number (get_or x.servers m b) = was.servers_are m b lm in
-                    record { applied_is = y.applied_is ∙ sym (others (get_or x.servers m b).node x.number apart); boot_is = y.boot_is };
-              });
+          let x : RangeValue = get_or ranges k e in
+          let was : IsRangeTied log applied boot x = t.each k e lk in
+          let at_k : x.number.0 ≡ 0 + k + 1 = range_number_at 0 ranges k e numbered lk in
+          let at_i : r.number.0 ≡ 0 + i + 1 = range_number_at 0 ranges i d numbered li in
+          let apart : x.number.0 ≢ r.number.0 = λ q. ne (omega (arith, at_k, at_i, q)) in
+          record {
+            sound = was.sound;
+            log_is = was.log_is ∙ sym (logs x.number apart);
+            servers_are = λ m b lm.
+                let y : IsReplicaTied applied boot x.number (get_or x.servers m b) = was.servers_are m b lm in
+                record { applied_is = y.applied_is ∙ sym (others (get_or x.servers m b).node x.number apart); boot_is = y.boot_is };
+          });
       plans_are = planned_set ranges i d (changed_at r p l s) li refl ∙ t.plans_are ∙ ap (λ (k : ℕ). take k plans) (sym (length-set ranges i (changed_at r p l s)));
       made = λ j some.
           let inside : (1 ≤ j.0) × (j.0 ≤ length ranges) = ⊎_elim
-            (λ same. subst (λ (k : ℕ). (1 ≤ k) × (k ≤ length ranges)) (sym same) (t.made r.number begun))
-            (λ other. t.made j (λ q. some (logs j other ∙ q)))
-            (same_or_not j.0 r.number.0) in
+          (λ same. subst (λ (k : ℕ). (1 ≤ k) × (k ≤ length ranges)) (sym same) (t.made r.number begun))
+          (λ other. t.made j (λ q. some (logs j other ∙ q)))
+          (same_or_not j.0 r.number.0) in
           (inside.0, omega (arith, inside.1, length-set ranges i (changed_at r p l s)));
     }

@@ -1,5 +1,5 @@
 -- Where the ranges of a stage stand, and how a change of one keeps the ties of all.
-use Rattle.std.proofs.Common.{◌≡◌, ◌≢◌, ◌<◌, ◌≤◌, ◌+◌, ◌-◌, ◌∙◌, ◌==◌, ◌⊎◌, ℕ, zero, suc, Bool, true, false, cond, List, [], ◌∷◌, ◌++◌, Option, None, Some, All, AllPairs, Contains, find, map, set, get_or, take, length, refl, sym, ap, subst, inl, inr, arith, min}
+use Rattle.std.proofs.Common.{◌≡◌, ◌≢◌, ◌<◌, ◌≤◌, ◌+◌, ◌-◌, ◌∙◌, ◌==◌, ℕ, zero, suc, Bool, true, false, cond, List, [], ◌∷◌, ◌++◌, Option, Some, All, AllPairs, Contains, find, map, set, get_or, take, length, refl, sym, ap, subst, inl, inr, arith}
 use Rattle.std.proofs.lemmas.Bool.{cases_Bool, cases_eq, cases_order}
 use Rattle.std.proofs.lemmas.Bool.Decides.{nat_tests}
 use Rattle.std.proofs.lemmas.Grind.{get_or-set_at}
@@ -10,10 +10,10 @@ use Rattle.mr_base.specs.declared.ids.RangeId.{RangeId}
 use Rattle.node_states.specs.Stage.{AreNumbered, range_setup}
 use Rattle.node_states.specs.declared.stage.RangePlan.{RangePlan}
 use Rattle.range_log.specs.declared.entries.Entry.{Entry}
-use Rattle.range_replicas.specs.RangeValue.{RangeValue, replicas, server_at}
+use Rattle.range_replicas.specs.RangeValue.{RangeValue, replicas}
 use Rattle.range_replicas.specs.Sound.{IsSound}
 use Rattle.range_server.specs.declared.standing.Standing.{Standing}
-use Rattle.replica_states.specs.RangeTies.{AreRangesTied, IsRangeTied, IsReplicaTied, planned}
+use Rattle.replica_states.specs.RangeTies.{AreRangesTied, IsRangeTied, planned}
 use Rattle.run_words.specs.Ranges.{has_number}
 use Rattle.run_words.specs.Setup.{RangeSetup}
 
@@ -122,20 +122,20 @@ module _ (log : RangeId → List Entry) (applied : NodeId → RangeId → ℕ) (
   range_changes k d r log2 applied2 within same changed logs counts =
       let others : (i : ℕ) (e : RangeValue) → i < length ranges → i ≢ k → IsRangeTied log2 applied2 boot (get_or ranges i e)
       = λ i e h n.
-          let old = tied.each i e h in
-          let apart : (get_or ranges i e).number.0 ≢ k + 1 = (λ at. n (let x : i ≡ k = omega (arith, at, number_at i e h) in x)) in
-          record {
-            sound = old.sound;
-            log_is = old.log_is ∙ sym (logs (get_or ranges i e).number apart);
-            servers_are = λ p s hp. record {
-              applied_is = (old.servers_are p s hp).applied_is ∙ sym (counts (get_or (get_or ranges i e).servers p s).node (get_or ranges i e).number apart);
-              boot_is = (old.servers_are p s hp).boot_is;
-            };
-          }
+      let old = tied.each i e h in
+      let apart : (get_or ranges i e).number.0 ≢ k + 1 = (λ at. n (let x : i ≡ k = omega (arith, at, number_at i e h) in x)) in
+      record {
+        sound = old.sound;
+        log_is = old.log_is ∙ sym (logs (get_or ranges i e).number apart);
+        servers_are = λ p s hp. record {
+          applied_is = (old.servers_are p s hp).applied_is ∙ sym (counts (get_or (get_or ranges i e).servers p s).node (get_or ranges i e).number apart);
+          boot_is = (old.servers_are p s hp).boot_is;
+        };
+      }
       in
       let plans_same : map planned (set ranges k r) ≡ map planned ranges
       = map-set planned ranges k r ∙ ap (λ (p : RangeSetup). set (map planned ranges) k p)
-          (same ∙ sym (get_or-map planned ranges k d (planned d) within)) ∙ set-get_or (map planned ranges) k (planned d) in
+      (same ∙ sym (get_or-map planned ranges k d (planned d) within)) ∙ set-get_or (map planned ranges) k (planned d) in
       record {
         each = all_set (IsRangeTied log2 applied2 boot) ranges k r within changed others;
         plans_are = plans_same ∙ tied.plans_are ∙ ap (λ (n : ℕ). take n plans) (sym (length-set ranges k r));

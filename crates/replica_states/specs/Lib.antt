@@ -1,1 +1,4 @@
+pub mod Making
+pub mod FirstRange
 pub mod RangeTies
+pub mod Restarts

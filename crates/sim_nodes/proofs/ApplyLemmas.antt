@@ -98,7 +98,7 @@ module _ (s : State) (t : IsTied s) (j : RangeId) (made : log_of (the_setup s) (
           let node : (get_or r.servers k d).node ≢ n = (λ e. nodes_apart r k place d nobody (range_tied s (past s) t j made r is).sound h there apart (e ∙ sym at)) in
           let stays : applied (the_setup s) h2 (get_or r.servers k d).node j ≡ applied (the_setup s) (past s) (get_or r.servers k d).node j
           = apart_node (j.0 == j.0) (n.0 == (get_or r.servers k d).node.0) (applied (the_setup s) (past s) (get_or r.servers k d).node j) count
-              (other_test n.0 (get_or r.servers k d).node.0 (node_number n (get_or r.servers k d).node (λ e. node (sym e)))) in
+          (other_test n.0 (get_or r.servers k d).node.0 (node_number n (get_or r.servers k d).node (λ e. node (sym e)))) in
           record {
             applied_is = old.applied_is ∙ ap (applied (the_setup s) (past s) (get_or r.servers k d).node) number ∙ sym stays;
             boot_is = old.boot_is;
@@ -140,8 +140,13 @@ module _ (s : State) (t : IsTied s) (j : RangeId) (made : log_of (the_setup s) (
   pub applied_within : applied (the_setup s) (past s) n j ≤ length (log_of (the_setup s) (past s) j)
   applied_within =
       let f = (range_tied s (past s) t j made r is).sound.follows place nobody there in
-      omega (arith, f.count, length-drop (length r.log.entries - (server_at place r).replica.applied) r.log.entries, applied_there s (past s) t j made r is place n there at,
-      ap length (log_is s (past s) t j made r is))
+      omega (
+        arith,
+        f.count,
+        length-drop (length r.log.entries - (server_at place r).replica.applied) r.log.entries,
+        applied_there s (past s) t j made r is place n there at,
+        ap length (log_is s (past s) t j made r is),
+      )
 
   -- at its own line
   module _ (more : ℕ) (line : IsFirstAt (past s) (events.Apply n j more)) (sum least : ℕ)

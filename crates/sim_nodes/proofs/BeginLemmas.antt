@@ -90,11 +90,20 @@ pub begun_keeps : (s : State) (t : TxnId) (gateway : NodeId) (a : AttemptId) (x 
 begun_keeps s t gateway a x y r start limit i there due number item next later kept is lim =
     record {
       staged = i.staged;
-      laws = (record { order = due; message = tt; append = tt; waited = tt; begun = record {
-        attempt = number ∙ ap (λ k. k + 1) i.begun_are;
-        start_is = starts_next s gateway x r a.0 start i there item next is;
-        limit_is = lim;
-      } }, i.laws);
+      laws = (
+        record {
+          order = due;
+          message = tt;
+          append = tt;
+          waited = tt;
+          begun = record {
+            attempt = number ∙ ap (λ k. k + 1) i.begun_are;
+            start_is = starts_next s gateway x r a.0 start i there item next is;
+            limit_is = lim;
+          };
+        },
+        i.laws,
+      );
       count = length-set s.nodes.items (place_of gateway) y ∙ i.count;
       nodes_are = nodes_begun s t gateway a x y r start limit i there item later kept is;
       ranges_are = i.ranges_are;

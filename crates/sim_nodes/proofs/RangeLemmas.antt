@@ -1,5 +1,5 @@
 -- A range of the state by its number, and what is so of its replicas.
-use Rattle.std.proofs.Common.{◌≡◌, ◌≢◌, ◌<◌, ◌≤◌, ◌-◌, ◌+◌, ◌∙◌, ℕ, List, [], Contains, get_or, length, map, refl, sym, ap, subst, arith}
+use Rattle.std.proofs.Common.{◌≡◌, ◌≢◌, ◌<◌, ◌≤◌, ◌-◌, ◌+◌, ◌∙◌, ℕ, List, [], Contains, Vec, get_or, length, map, refl, sym, ap, subst, arith}
 use Rattle.std.proofs.lemmas.List.{get_or_read}
 use Rattle.mr_base.specs.declared.ids.NodeId.{NodeId}
 use Rattle.mr_base.specs.declared.ids.RangeId.{RangeId}
@@ -11,6 +11,8 @@ use Rattle.run_words.specs.History.{History}
 use Rattle.run_words.specs.Logs.{applied, log_of}
 use Rattle.run_words.specs.Nodes.{boot}
 use Rattle.run_words.specs.Ranges.{HoldsReplica}
+use Rattle.request_routes.specs.declared.hints.Hints.{Hints}
+use Rattle.std.specs.declared.alloc.Global.{Global}
 use Rattle.sim_nodes.specs.RangeAt.{no_range, range_at}
 use Rattle.sim_nodes.specs.Tied.{IsTiedTo, past, the_setup}
 use Rattle.sim_nodes.specs.declared.state.State.{State}
@@ -51,3 +53,17 @@ module _ (s : State) (h : History) (t : IsTiedTo h s) where
 
         pub boot_there : (server_at place r).boot ≡ boot (the_setup s) h n
         boot_there = (range_tied.servers_are place nobody there).boot_is ∙ ap (boot (the_setup s) h) at
+
+-- no tie looks at the hints
+pub hints_apart : (s : State) (h : History) (hints : Vec Hints Global) → IsTiedTo h s → IsTiedTo h (record s { hints = hints })
+hints_apart s h hints t =
+    record {
+      staged = t.staged;
+      laws = t.laws;
+      count = t.count;
+      nodes_are = t.nodes_are;
+      ranges_are = t.ranges_are;
+      mails_are = t.mails_are;
+      begun_are = t.begun_are;
+      sent_are = t.sent_are;
+    }

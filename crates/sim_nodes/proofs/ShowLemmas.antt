@@ -47,7 +47,7 @@ node_as_shown s n x t there e =
     let r : reading_of x.clock.physical x.clock.kept ≡ reading (the_setup s) (past s) n = reading_at s (past s) n x t there e in
     let u : x.runs ≡ is_running (the_setup s) (past s) n = runs_at s (past s) n x t there e in
     let b : x.boot ≡ boot (the_setup s) (past s) n =
-        (tied_at s (past s) n x t there e).boot_is ∙ ap (boot (the_setup s) (past s)) (id_at s (past s) n x t there e) in
+    (tied_at s (past s) n x t there e).boot_is ∙ ap (boot (the_setup s) (past s)) (id_at s (past s) n x t there e) in
     rw (r, u, b) refl
 
 pub shown_range_keeps : (s : State) (j : RangeId) (seq : ℕ) (holder : NodeId) (expiration : ℕ) (closed : Ts) (count : ℕ) → IsTied s → IsFirstAt (past s) (events.ShowRange j)

@@ -1,4 +1,4 @@
-use Rattle.std.proofs.Common.{◌≡◌, List, [], ◌∷◌, refl, sym, ap, ◌∙◌, subst}
+use Rattle.std.proofs.Common.{◌≡◌, List, [], ◌∷◌, ◌++◌, refl, sym, ap, ◌∙◌, subst}
 use Rattle.journal.specs.declared.entries.JournalEntry.{JournalEntry}
 use Rattle.run_ledger.specs.LedgerValue.{LedgerValue}
 use Rattle.run_words.specs.History.{History, Item, Made}
@@ -45,4 +45,27 @@ made_entry s t same mid new e room r w tied =
       stage = same;
       history = written s.ledger mid new e room r w;
       tied = subst (λ (h : History). IsTiedTo h (with_ledger t new)) (sym (written s.ledger mid new e room r w)) (tied_with t new (Made e ∷ past s) tied);
+    }
+
+-- what was changed beside the ledger is tied with all the items of a call
+pub made_items : (s t : State) → t.stage ≡ s.stage → (l : LedgerValue) (items : History) → l.history ≡ items ++ past s → IsTiedTo (items ++ past s) t
+    → HasMade items s (record t { ledger = l })
+made_items s t same l items e tied =
+    record {
+      stage = same;
+      history = e;
+      tied = subst (λ (h : History). IsTiedTo h (with_ledger t l)) (sym e) (tied_with t l (items ++ past s) tied);
+    }
+
+-- the same of two entries, one after the other
+pub made_two : (s t : State) → t.stage ≡ s.stage → (mid one two : LedgerValue) (x y : JournalEntry) (less least : _) → mid ≡ record s.ledger { room = mid.room }
+    → one ≡ record mid { history = Made x ∷ mid.history; room = less } → two ≡ record one { history = Made y ∷ one.history; room = least }
+    → IsTiedTo (Made y ∷ Made x ∷ past s) t → HasMade (Made y ∷ Made x ∷ []) s (record t { ledger = two })
+made_two s t same mid one two x y less least r w v tied =
+    let e : two.history ≡ Made y ∷ Made x ∷ past s
+    = ap (λ (l : LedgerValue). l.history) v ∙ ap (λ (h : History). Made y ∷ h) (written s.ledger mid one x less r w) in
+    record {
+      stage = same;
+      history = e;
+      tied = subst (λ (h : History). IsTiedTo h (with_ledger t two)) (sym e) (tied_with t two (Made y ∷ Made x ∷ past s) tied);
     }

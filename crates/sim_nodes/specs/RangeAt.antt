@@ -1,11 +1,6 @@
-use Rattle.std.specs.Prelude.{false, [], slice_index_or, ◌-◌, ◌∷◌, ◌≡◌, ◌⊎◌, ℕ}
-use Rattle.journal.specs.declared.entries.JournalEntry.TheVariants as made
-use Rattle.mr_base.specs.declared.ids.NodeId.{NodeId}
+use Rattle.std.specs.Prelude.{false, [], slice_index_or, ◌-◌}
 use Rattle.mr_base.specs.declared.ids.RangeId.{RangeId}
 use Rattle.range_replicas.specs.RangeValue.{RangeValue}
-use Rattle.run_words.specs.History.{History, Made}
-use Rattle.run_words.specs.Logs.{applied}
-use Rattle.sim_nodes.specs.Tied.{the_setup, past}
 use Rattle.sim_nodes.specs.declared.state.State.{State}
 
 -- The ranges by their numbers. No public clause cites this.
@@ -25,9 +20,3 @@ no_range =
 -- the range of a number, where it has been made
 abbrev pub range_at : RangeId → State → RangeValue
 range_at j s = slice_index_or s.ranges.items (j.0 - 1) no_range
-
--- what a replica applies to make it this many, if that is more
-abbrev pub applies : NodeId → RangeId → (count : ℕ) → State → History → Type 0
-applies n j count s items =
-    ((applied (the_setup s) (past s) n j ≡ count) × (items ≡ []))
-    ⊎ (items ≡ Made (made.Apply n j count) ∷ [])

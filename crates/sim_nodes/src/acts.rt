@@ -1,22 +1,29 @@
 //! Lines and beginnings, as the layers above ask for them.
 
-ghost use Rattle.std.specs.Prelude.{◌≡◌, ◌+◌, ◌∷◌, [], IfOk, OnErr, OnOk, Some, false};
+ghost use Rattle.std.specs.Prelude.{◌≡◌, ◌≢◌, ℕ, ◌+◌, ◌∷◌, [], IfOk, OnErr, OnOk, Some, false, length, min, true};
 ghost use Rattle.journal.specs.declared.entries.JournalEntry.TheVariants as made;
 ghost use Rattle.journal.specs.declared.events.Event.TheVariants as events;
 ghost use Rattle.node_states.specs.Stage.{IsStage};
 ghost use Rattle.run_laws.specs.Order.{IsBeginDue};
-ghost use Rattle.run_laws.specs.OrderEvents.{IsInStep, IsLineDue, NamesNode};
+ghost use Rattle.run_laws.specs.OrderEvents.{IsFirstAt, IsInStep, IsLineDue, NamesNode};
 ghost use Rattle.run_words.specs.Askers.{own_txn};
-ghost use Rattle.run_words.specs.History.{Made, Ran, Ticked};
+ghost use Rattle.run_words.specs.History.{History, Made, Ran, Ticked};
+ghost use Rattle.run_words.specs.Logs.{applied, log_of};
+ghost use Rattle.run_words.specs.Nodes.{is_running};
+ghost use Rattle.run_words.specs.Ranges.{HoldsReplica};
 ghost use Rattle.run_words.specs.Steps.{event_of, has_ticked};
 ghost use Rattle.run_words.specs.Transactions.{attempts};
+ghost use Rattle.sim_nodes.specs.Applying.{Applies};
+ghost use Rattle.sim_nodes.specs.Begun.{HasBegun};
+ghost use Rattle.sim_nodes.specs.LeaseMoves.{MovesLease};
 ghost use Rattle.sim_nodes.specs.NodesValue.{ended_as, setup, with_items};
 ghost use Rattle.sim_nodes.specs.Tied.{IsThere};
 
 use crate::beginnings::Begun;
 use crate::nodes::Nodes;
 use crate::state::State;
-use mr_base::{AttemptId, Memory, NodeId, TxnId};
+use journal::Event;
+use mr_base::{AttemptId, Memory, NodeId, RangeId, TxnId};
 use node_states::Stage;
 use range_log::RetryCause;
 use std::alloc::Global;
@@ -33,6 +40,71 @@ impl Nodes {
             state,
             ended: false,
         })
+    }
+
+    /// Runs a line of the scenario: clocks tick, a node stops or starts. What else it asks for is done by the calls
+    /// behind it.
+    pub fn line(&mut self, number: u32, event: Event) -> Result<(), Memory>
+        requires open { self.old.ended ≡ false }
+        requires due { IsLineDue (event_of self.old.history) (has_ticked self.old.history) }
+        requires names { NamesNode (setup self.old) event }
+        ensures made { OnOk result (self.new ≡ with_items (Ran number event ∷ []) self.old) }
+        ensures err { OnErr result (self.new ≡ ended_as self.old) }
+    {
+        self.ended = true;
+        self.state.line(number, event)?;
+        self.ended = false;
+        Ok(())
+    }
+
+    /// A replica of a node that runs applies up to so many more entries, at the line that says so.
+    pub fn apply(&mut self, node: NodeId, range: RangeId, more: u64) -> Result<(), Memory>
+        requires open { self.old.ended ≡ false }
+        requires line { IsFirstAt self.old.history (events.Apply node range more) }
+        requires running { is_running (setup self.old) self.old.history node ≡ true }
+        requires replica { HoldsReplica (setup self.old) self.old.history node range }
+        requires made { log_of (setup self.old) self.old.history range ≢ [] }
+        ensures made { OnOk result ((items : History) × Applies node range
+            (min (applied (setup self.old) self.old.history node range + more)
+            (length (log_of (setup self.old) self.old.history range)))
+            (setup self.old) self.old.history items × (self.new ≡ with_items items self.old)) }
+        ensures err { OnErr result (self.new ≡ ended_as self.old) }
+    {
+        self.ended = true;
+        self.state.apply(node, range, more)?;
+        self.ended = false;
+        Ok(())
+    }
+
+    /// Makes the ranges behind the `begin` line, in the order of their numbers: each begins with its first lease.
+    pub fn begin(&mut self) -> Result<(), Memory>
+        requires open { self.old.ended ≡ false }
+        requires first { (line : ℕ) × (self.old.history ≡ Ran line events.Begin ∷ []) }
+        ensures begun { OnOk result (HasBegun self.old self.new) }
+        ensures stage { self.new.stage ≡ self.old.stage }
+        ensures err { OnErr result (self.new.ended ≡ true) }
+    {
+        self.ended = true;
+        self.state.begin(self.alloc)?;
+        self.ended = false;
+        Ok(())
+    }
+
+    /// A node that runs takes the lease of a range where that is expired, at the line that says so; else it is said why
+    /// not.
+    pub fn acquire(&mut self, range: RangeId, node: NodeId) -> Result<(), Memory>
+        requires open { self.old.ended ≡ false }
+        requires there { IsThere self.old.stage node }
+        requires line { IsFirstAt self.old.history (events.LeaseAcquire range node) }
+        requires running { is_running (setup self.old) self.old.history node ≡ true }
+        requires made { log_of (setup self.old) self.old.history range ≢ [] }
+        ensures made { OnOk result ((items : History) × MovesLease range items × (self.new ≡ with_items items self.old)) }
+        ensures err { OnErr result (self.new ≡ ended_as self.old) }
+    {
+        self.ended = true;
+        self.state.acquire(range, node)?;
+        self.ended = false;
+        Ok(())
     }
 
     /// Ticks all clocks inside a `settle` line, once.

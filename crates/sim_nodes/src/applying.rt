@@ -9,9 +9,11 @@ ghost use Rattle.run_words.specs.History.{History, Made};
 ghost use Rattle.run_words.specs.Logs.{applied, log_of};
 ghost use Rattle.run_words.specs.Nodes.{is_running};
 ghost use Rattle.run_words.specs.Ranges.{HoldsReplica};
-ghost use Rattle.sim_nodes.specs.RangeAt.{applies, range_at};
+ghost use Rattle.sim_nodes.specs.Applying.{Applies};
+ghost use Rattle.sim_nodes.specs.RangeAt.{range_at};
 ghost use Rattle.sim_nodes.specs.Tied.{HasMade, IsTied, IsUnrecorded, past, the_setup};
 
+use crate::hints::learn_leases;
 use crate::state::State;
 use journal::JournalEntry;
 use mr_base::{Memory, NodeId, RangeId};
@@ -24,9 +26,10 @@ impl State {
         requires running { is_running (the_setup self.old) (past self.old) node ≡ true }
         requires replica { HoldsReplica (the_setup self.old) (past self.old) node number }
         requires made { log_of (the_setup self.old) (past self.old) number ≢ [] }
-        ensures made { OnOk result ((items : History) × applies node number
-            (min (applied (the_setup self.old) (past self.old) node number + more) (length (log_of (the_setup self.old) (past self.old) number)))
-            self.old items × HasMade items self.old self.new) }
+        ensures made { OnOk result ((items : History) × Applies node number
+            (min (applied (the_setup self.old) (past self.old) node number + more)
+            (length (log_of (the_setup self.old) (past self.old) number)))
+            (the_setup self.old) (past self.old) items × HasMade items self.old self.new) }
         ensures err { OnErr result (IsUnrecorded self.old self.new) }
     {
         let range = &self.ranges[(number.0 - 1) as usize];
@@ -58,7 +61,10 @@ impl State {
         ensures err { OnErr result (IsUnrecorded self.old self.new) }
     {
         self.ledger.reserve(1)?;
-        self.ranges[(number.0 - 1) as usize].apply(place, upto)?;
+        let range = &mut self.ranges[(number.0 - 1) as usize];
+        let applied = range.applied(place);
+        range.apply(place, upto)?;
+        learn_leases(self.hints.as_mut_slice(), node, range, applied, upto);
         self.ledger.write(JournalEntry::Apply {
             node,
             range: number,

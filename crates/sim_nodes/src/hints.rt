@@ -1,9 +1,11 @@
 //! What the nodes believe of leases. Nothing rests on it but where requests go; where a node or a range isn't there,
 //! nothing is learned.
 
-ghost use Rattle.std.specs.Prelude.{◌≤◌, length};
+ghost use Rattle.std.specs.Prelude.{◌≤◌, All, length};
+ghost use Rattle.range_replicas.specs.Sound.{IsSound};
 
 use mr_base::{Memory, NodeId, RangeId};
+use node_states::Move;
 use range_log::{Entry, Lease};
 use range_replicas::ReplicatedRange;
 use request_routes::{Hint, Hints};
@@ -56,6 +58,28 @@ pub fn restart_hint(
     if node < hints.len() && range < hints[node].len() {
         hints[node].restart(range, applied, first);
     }
+}
+
+/// A node that starts knows of each range what its own replica has applied, else the first voter.
+pub fn restart_hints(hints: &mut [Hints], ranges: &[ReplicatedRange], moving: Move)
+    requires { All IsSound ranges.now }
+{
+    let Move::Start(node) = moving else {
+        return;
+    };
+    for range in ranges {
+        if let Some(first) = range.voters().first() {
+            restart_hint(hints, node, range.number(), applied_by(range, node), *first);
+        }
+    }
+}
+
+/// The last lease that a node's replica of a range has applied, if it has a replica.
+fn applied_by(range: &ReplicatedRange, node: NodeId) -> Option<Lease>
+    requires { IsSound range.now }
+{
+    let place = range.place_of(node)?;
+    range.server(place).replica().lease()
 }
 
 /// A range begins, with the lease of its first voter.

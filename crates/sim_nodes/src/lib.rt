@@ -2,20 +2,27 @@
 //! journal of what they do.
 #![tactic(auto)]
 
-mod applying;
 mod acts;
+mod applying;
 mod attempts;
 mod beginnings;
 mod ended_txns;
 mod endings;
 mod first_state;
+mod handling;
 mod hints;
+mod leases;
 mod lines;
 mod mails;
+mod making;
+mod network;
 mod nodes;
 mod readers;
+mod requests;
+mod serving;
 mod shows;
 mod state;
+mod views;
 
 pub use beginnings::Begun;
 pub use nodes::Nodes;

@@ -7,10 +7,12 @@ ghost use Rattle.run_words.specs.History.{Ran, Ticked};
 ghost use Rattle.run_words.specs.Steps.{event_of, has_ticked};
 ghost use Rattle.sim_nodes.specs.Tied.{HasMade, IsTied, IsUnrecorded, past, the_setup};
 
+use crate::hints::restart_hints;
 use crate::state::State;
 use journal::Event;
 use mr_base::Memory;
 use node_states::{Move, can_not_move, move_all, move_of};
+use replica_states::restart_moved;
 
 impl State {
     /// Runs a line: clocks tick, a node stops or starts. What else a line asks for is done by the calls behind it.
@@ -27,6 +29,8 @@ impl State {
         }
         self.ledger.line(number, event)?;
         self.running = move_all(self.nodes.as_mut_slice(), moving);
+        restart_moved(self.ranges.as_mut_slice(), self.nodes.as_slice(), moving);
+        restart_hints(self.hints.as_mut_slice(), self.ranges.as_slice(), moving);
         Ok(())
     }
 

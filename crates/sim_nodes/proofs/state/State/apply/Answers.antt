@@ -15,7 +15,7 @@ returns-then-upto-applied-clause-made c = (
   [],
   inl (
     line_done c.args.self.now c.requires.tied c.args.number c.requires.made c.index-range.result.now c.index-range.ensures c.in-Some.place c.args.node
-    c.in-Some.ensures.0 c.in-Some.ensures.1 c.args.more c.requires.line c.saturating_add.result c.min-upto.result (search rules) (search rules) (search rules) (search rules),
+        c.in-Some.ensures.0 c.in-Some.ensures.1 c.args.more c.requires.line c.saturating_add.result c.min-upto.result (search rules) (search rules) (search rules) (search rules),
     refl,
   ),
   record { stage = refl; history = refl; tied = c.requires.tied },

@@ -16,7 +16,7 @@ returns-clause-made c =
     let s = c.args.self.now in
     let clock : Reading = c.reading.result in
     let same : clock ≡ reading (the_setup s) (past s) c.args.from =
-      c.reading.ensures.shown ∙ reading_at s (past s) c.args.from c.index-gateway.result.now c.requires.tied c.requires.there c.index-gateway.ensures in
+    c.reading.ensures.shown ∙ reading_at s (past s) c.args.from c.index-gateway.result.now c.requires.tied c.requires.there c.index-gateway.ensures in
     let number : c.in_ok-number.number ≡ s.sent + 1 = given_some c.checked_add.result _ c.in_ok-number.number _ c.in_ok-number.ensures.ok_part c.checked_add.ensures in
     rw (sym same)
     (made_entry s (record s { flight = c.send.new.self; sent = c.in_ok-number.number }) refl c.reserve.new.self c.write.new.self

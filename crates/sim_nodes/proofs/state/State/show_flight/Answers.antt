@@ -10,5 +10,5 @@ pub returns-clause-made : goal.returns-clause-made
 returns-clause-made c =
     made_entry c.args.self.now c.args.self.now refl c.reserve.new.self c.write.new.self _ _ c.in_ok-reserve.ensures.history
     (subst (λ (ids : List MsgId). c.write.new.self ≡ record c.reserve.new.self { history = Made (entry.ShowFlight ids) ∷ c.reserve.new.self.history; room = c.reserve.new.self.room - 1 })
-      (c.in_ok-messages.ensures ∙ c.requires.tied.mails_are.tied.numbers) c.write.ensures)
+    (c.in_ok-messages.ensures ∙ c.requires.tied.mails_are.tied.numbers) c.write.ensures)
     (shown_flight_keeps c.args.self.now _ c.requires.tied c.requires.due)
