@@ -1,17 +1,21 @@
 //! What can be read of the nodes.
 
-ghost use Rattle.std.specs.Prelude.{◌≡◌, false, option_copied, reverse};
+ghost use Rattle.std.specs.Prelude.{◌≡◌, ◌↔◌, IsTrue, false, option_copied, reverse, slice_get};
+ghost use Rattle.run_laws.specs.Messages.{IsInFlight};
 ghost use Rattle.run_words.specs.Clocks.{reading};
 ghost use Rattle.run_words.specs.History.{journal_of};
+ghost use Rattle.run_words.specs.Messages.{flight};
 ghost use Rattle.run_words.specs.Nodes.{boot, is_running};
 ghost use Rattle.run_words.specs.Steps.{event_of, has_entry};
 ghost use Rattle.run_words.specs.Transactions.{attempts};
 ghost use Rattle.sim_nodes.specs.NodesValue.{setup};
 ghost use Rattle.sim_nodes.specs.Tied.{IsThere};
 
+use crate::hints::{hinted, learn_told};
 use crate::nodes::Nodes;
 use journal::{Event, JournalEntry};
-use mr_base::{NodeId, Reading};
+use mr_base::{MsgId, NodeId, RangeId, Reading};
+use request_routes::Hint;
 
 impl Nodes {
     /// What a node's clock shows.
@@ -68,5 +72,33 @@ impl Nodes {
         ensures { result ≡ has_entry self.now.history }
     {
         self.state.ledger.has_entry()
+    }
+
+    /// The first message in flight.
+    pub fn head(&self) -> Option<MsgId>
+        requires open { self.now.ended ≡ false }
+        ensures { result ≡ slice_get (flight self.now.history) 0 }
+    {
+        self.state.flight.head()
+    }
+
+    /// Whether a message is in flight.
+    pub fn in_flight(&self, id: MsgId) -> bool
+        requires open { self.now.ended ≡ false }
+        ensures { IsTrue result ↔ IsInFlight self.now.history id }
+    {
+        self.state.flight.has(id)
+    }
+
+    /// The node that a node believes to be leaseholder of a range; none where one of both isn't there.
+    pub fn hint(&self, node: NodeId, range: RangeId) -> Option<NodeId> {
+        hinted(self.state.hints.as_slice(), node, range)
+    }
+
+    /// A reply to a transaction that is open has told its gateway of a lease.
+    pub fn learn_told(&mut self, node: NodeId, range: RangeId, told: Hint)
+        ensures { self.new ≡ self.old }
+    {
+        learn_told(self.state.hints.as_mut_slice(), node, range, told);
     }
 }
