@@ -107,6 +107,36 @@ impl Nodes {
         Ok(())
     }
 
+    /// The holder of the lease of a range, where it runs, hands it on to a node at the line that says so; else it is said
+    /// why not.
+    pub fn transfer(&mut self, range: RangeId, to: NodeId) -> Result<(), Memory>
+        requires open { self.old.ended ≡ false }
+        requires there { IsThere self.old.stage to }
+        requires line { IsFirstAt self.old.history (events.LeaseTransfer range to) }
+        requires made { log_of (setup self.old) self.old.history range ≢ [] }
+        ensures made { OnOk result ((items : History) × MovesLease range items × (self.new ≡ with_items items self.old)) }
+        ensures err { OnErr result (self.new ≡ ended_as self.old) }
+    {
+        self.ended = true;
+        self.state.transfer(range, to)?;
+        self.ended = false;
+        Ok(())
+    }
+
+    /// The holder of the lease of a range, where it runs, extends it at the line that says so; else it is said why not.
+    pub fn extend(&mut self, range: RangeId) -> Result<(), Memory>
+        requires open { self.old.ended ≡ false }
+        requires line { IsFirstAt self.old.history (events.LeaseExtend range) }
+        requires made { log_of (setup self.old) self.old.history range ≢ [] }
+        ensures made { OnOk result ((items : History) × MovesLease range items × (self.new ≡ with_items items self.old)) }
+        ensures err { OnErr result (self.new ≡ ended_as self.old) }
+    {
+        self.ended = true;
+        self.state.extend(range)?;
+        self.ended = false;
+        Ok(())
+    }
+
     /// Ticks all clocks inside a `settle` line, once.
     pub fn ticked(&mut self, ms: u64) -> Result<(), Memory>
         requires open { self.old.ended ≡ false }

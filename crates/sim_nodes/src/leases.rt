@@ -186,6 +186,19 @@ impl State {
         self.move_lease(number, holder, place, ask, clock)
     }
 
+    /// The holder of the lease of a range hands it on to a node, at the line that says so.
+    pub fn transfer(&mut self, number: RangeId, to: NodeId) -> Result<(), Memory>
+        requires tied { IsTied self.old }
+        requires there { IsThere self.old.stage to }
+        requires line { IsFirstAt (past self.old) (events.LeaseTransfer number to) }
+        requires made { log_of (the_setup self.old) (past self.old) number ≢ [] }
+        ensures made { OnOk result ((items : History) × MovesLease number items × HasMade items self.old self.new) }
+        ensures err { OnErr result (IsUnrecorded self.old self.new) }
+    {
+        let boot = self.nodes[(to.0 - 1) as usize].boot;
+        self.move_held(number, Ask::Transfer { to, boot })
+    }
+
     /// The holder of the lease of a range extends it, at the line that says so.
     pub fn extend(&mut self, number: RangeId) -> Result<(), Memory>
         requires tied { IsTied self.old }
