@@ -51,7 +51,7 @@ replica_node s t j made r is place n there at =
     let node_at : Standing → NodeId = λ x. x.node in
     let found : find (has_number j) (the_setup s).ranges ≡ Some (planned r)
     = plan_made (log_of (the_setup s) (past s)) (applied (the_setup s) (past s)) (boot (the_setup s) (past s)) (the_setup s).ranges s.ranges.items (numbered s (past s) t) t.ranges_are j r made
-        ∙ ap (λ (x : RangeValue). Some (planned x)) (sym is) in
+    ∙ ap (λ (x : RangeValue). Some (planned x)) (sym is) in
     let held : replicas_of (the_setup s) (past s) j ≡ r.voters ++ r.others
     = ap (λ (o : Option RangeSetup). option_map_or (λ range. range.voters ++ range.others) o []) found in
     let among : Contains (map node_at r.servers) n

@@ -51,8 +51,13 @@ planned_voters s d p t some within e =
 
 none_made : (s : State) (d : RangeValue) (p : RangePlan) → IsTied s → ((j : RangeId) → log_of (the_setup s) (past s) j ≡ []) → 0 < length s.ranges.items → ⊥
 none_made s d p t empty some =
-    let within : 0 < length s.stage.ranges = omega (arith, some, made_within (log_of (the_setup s) (past s)) (applied (the_setup s) (past s)) (boot (the_setup s) (past s)) (the_setup s).ranges s.ranges.items
-    (subst (λ (ns : List ℕ). AreNumbered 0 ns) (sym (setup_numbers s.stage.ranges)) t.staged.numbered) t.ranges_are, length-map s.stage.ranges range_setup) in
+    let within : 0 < length s.stage.ranges = omega (
+      arith,
+      some,
+      made_within (log_of (the_setup s) (past s)) (applied (the_setup s) (past s)) (boot (the_setup s) (past s)) (the_setup s).ranges s.ranges.items
+          (subst (λ (ns : List ℕ). AreNumbered 0 ns) (sym (setup_numbers s.stage.ranges)) t.staged.numbered) t.ranges_are,
+      length-map s.stage.ranges range_setup,
+    ) in
     let tied : IsRangeTied (log_of (the_setup s) (past s)) (applied (the_setup s) (past s)) (boot (the_setup s) (past s)) (get_or s.ranges.items 0 d) = t.ranges_are.each 0 d some in
     let servers : 0 < length (get_or s.ranges.items 0 d).servers =
     subst (λ (k : ℕ). 0 < k) (sym (sym (length-map (get_or s.ranges.items 0 d).servers (λ (x : Standing). x.node)) ∙ ap length tied.sound.nodes))

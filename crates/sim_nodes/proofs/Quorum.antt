@@ -102,5 +102,5 @@ module _ (s : State) (h : History) (t : IsTiedTo h s) (j : RangeId) (made : log_
       let inside : v.0 < length (r.voters ++ r.others) = omega (arith, v.1, length-append r.voters r.others) in
       let held : replicas_of (the_setup s) h j ≡ r.voters ++ r.others = ap (λ (o : Option RangeSetup). option_map_or (λ range. range.voters ++ range.others) o []) planned_at in
       let holds : Contains (replicas_of (the_setup s) h j) n =
-        subst (λ (ns : List NodeId). Contains ns n) (sym held) (v.0, inside, front_at r.voters r.others v.0 n v.1 ∙ v.2) in
+      subst (λ (ns : List NodeId). Contains ns n) (sym held) (v.0, inside, front_at r.voters r.others v.0 n v.1 ∙ v.2) in
       among s h n d t (replica_there s.stage h n j t.staged holds)

@@ -20,15 +20,15 @@ pub index-requires : goal.index-requires
 index-requires c =
     let s = c.args.self.now in
     let inside : c.args.node.0 - 1 < length s.nodes.items =
-      is_inside s (past s) c.args.node c.requires.tied
-      (replica_there s.stage (past s) c.args.node (range_asked c.args.q.now) c.requires.tied.staged c.requires.replica) in
+    is_inside s (past s) c.args.node c.requires.tied
+    (replica_there s.stage (past s) c.args.node (range_asked c.args.q.now) c.requires.tied.staged c.requires.replica) in
     search (rules, inside)
 
 pub answer_at-requires-clause-replica : goal.answer_at-requires-clause-replica
 answer_at-requires-clause-replica c =
     let s = c.args.self.now in
     let is : c.index_mut.result.now ≡ get_or s.ranges.items ((range_asked c.args.q.now).0 - 1) c.index_mut.result.now =
-      subst (λ (i : RangeId). c.index_mut.result.now ≡ get_or s.ranges.items (i.0 - 1) c.index_mut.result.now) c.range_asked-number.ensures c.index_mut.ensures.value in
+    subst (λ (i : RangeId). c.index_mut.result.now ≡ get_or s.ranges.items (i.0 - 1) c.index_mut.result.now) c.range_asked-number.ensures c.index_mut.ensures.value in
     replica_in s (past s) c.requires.tied (range_asked c.args.q.now) c.requires.begun c.index_mut.result.now is c.args.node c.requires.replica
 
 pub returns-clause-handled : goal.returns-clause-handled
@@ -38,7 +38,7 @@ returns-clause-handled c =
     let r = c.index_mut.result.now in
     let there : IsThere s.stage c.args.node = replica_there s.stage (past s) c.args.node (range_asked q) c.requires.tied.staged c.requires.replica in
     let is : r ≡ get_or s.ranges.items ((range_asked q).0 - 1) r =
-      subst (λ (i : RangeId). r ≡ get_or s.ranges.items (i.0 - 1) r) c.range_asked-number.ensures c.index_mut.ensures.value in
+    subst (λ (i : RangeId). r ≡ get_or s.ranges.items (i.0 - 1) r) c.range_asked-number.ensures c.index_mut.ensures.value in
     let shows = c.reading-clock.ensures.shown ∙ reading_at s (past s) c.args.node c.index.result.now c.requires.tied there c.index.ensures in
     rw c.range_asked-number.ensures (
       made_all c.in_ok-answered.answered.entries.items,

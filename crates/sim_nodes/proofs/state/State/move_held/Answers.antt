@@ -20,7 +20,7 @@ overflow_sub-holder c =
 pub index-node-requires : goal.index-node-requires
 index-node-requires c =
     let there = replica_node c.args.self.now c.requires.tied c.args.number c.requires.made c.index-range.result.now c.index-range.ensures c.in-Some.place c.lease.result.holder
-        c.in-Some.ensures.0 c.in-Some.ensures.1 in
+    c.in-Some.ensures.0 c.in-Some.ensures.1 in
     let inside = is_inside c.args.self.now (past c.args.self.now) c.lease.result.holder c.requires.tied there in
     omega (arith, inside, c.args.self.now.nodes.ok)
 
@@ -34,7 +34,7 @@ refuse_lease-requires-then-not-node-clause-first c = (c.requires.line c.lease.re
 pub move_lease-requires-clause-running : goal.move_lease-requires-clause-running
 move_lease-requires-clause-running c =
     let there = replica_node c.args.self.now c.requires.tied c.args.number c.requires.made c.index-range.result.now c.index-range.ensures c.in-Some.place c.lease.result.holder
-        c.in-Some.ensures.0 c.in-Some.ensures.1 in
+    c.in-Some.ensures.0 c.in-Some.ensures.1 in
     sym (runs_at c.args.self.now (past c.args.self.now) c.lease.result.holder c.index-node.result.now c.requires.tied there c.index-node.ensures) ∙ c.if-not-node.false
 
 pub move_lease-requires-clause-line : goal.move_lease-requires-clause-line
@@ -43,6 +43,6 @@ move_lease-requires-clause-line c = c.requires.line c.lease.result.holder
 pub move_lease-requires-clause-clock : goal.move_lease-requires-clause-clock
 move_lease-requires-clause-clock c =
     let there = replica_node c.args.self.now c.requires.tied c.args.number c.requires.made c.index-range.result.now c.index-range.ensures c.in-Some.place c.lease.result.holder
-        c.in-Some.ensures.0 c.in-Some.ensures.1 in
+    c.in-Some.ensures.0 c.in-Some.ensures.1 in
     c.reading-clock.ensures.shown
     ∙ reading_at c.args.self.now (past c.args.self.now) c.lease.result.holder c.index-node.result.now c.requires.tied there c.index-node.ensures
