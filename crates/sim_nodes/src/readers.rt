@@ -1,7 +1,6 @@
 //! What can be read of the nodes.
 
-ghost use Rattle.std.specs.Prelude.{◌≡◌, ◌↔◌, IsTrue, false, option_copied, reverse, slice_get};
-ghost use Rattle.run_laws.specs.Messages.{IsInFlight};
+ghost use Rattle.std.specs.Prelude.{◌≡◌, false, option_copied, reverse, slice_get};
 ghost use Rattle.run_words.specs.Clocks.{reading};
 ghost use Rattle.run_words.specs.History.{journal_of};
 ghost use Rattle.run_words.specs.Messages.{flight};
@@ -80,14 +79,6 @@ impl Nodes {
         ensures { result ≡ slice_get (flight self.now.history) 0 }
     {
         self.state.flight.head()
-    }
-
-    /// Whether a message is in flight.
-    pub fn in_flight(&self, id: MsgId) -> bool
-        requires open { self.now.ended ≡ false }
-        ensures { IsTrue result ↔ IsInFlight self.now.history id }
-    {
-        self.state.flight.has(id)
     }
 
     /// The node that a node believes to be leaseholder of a range; none where one of both isn't there.
