@@ -79,4 +79,4 @@ shown_flight_keeps s ms t due =
 
 -- a range is shown as its log says
 abbrev pub IsShownAs : RangeId → List Entry → JournalEntry → Type 0
-IsShownAs j log shown = (lease : Lease) → lease_of log ≡ Some lease → shown ≡ entry.ShowRange j lease.seq lease.holder lease.expiration (closed_of log) (length log)
+IsShownAs j log shown = (lease : Lease) × (lease_of log ≡ Some lease) × (shown ≡ entry.ShowRange j lease.seq lease.holder lease.expiration (closed_of log) (length log))

@@ -57,8 +57,8 @@ impl State {
         requires tied { IsTied self.old }
         requires due { IsFirstAt (past self.old) (events.ShowRange number) }
         requires made { log_of (the_setup self.old) (past self.old) number ≢ [] }
-        ensures made { OnOk result ((lease : Lease) → lease_of (log_of (the_setup self.old) (past self.old) number) ≡ Some lease
-            → HasMade (Made (made.ShowRange number lease.seq lease.holder lease.expiration
+        ensures made { OnOk result ((lease : Lease) × (lease_of (log_of (the_setup self.old) (past self.old) number) ≡ Some lease)
+            × HasMade (Made (made.ShowRange number lease.seq lease.holder lease.expiration
             (closed_of (log_of (the_setup self.old) (past self.old) number))
             (length (log_of (the_setup self.old) (past self.old) number))) ∷ []) self.old self.new) }
         ensures err { OnErr result (IsUnrecorded self.old self.new) }
@@ -72,8 +72,8 @@ impl State {
 
 /// A range as it is shown, under a number.
 fn shown_range(range: &ReplicatedRange, number: RangeId) -> JournalEntry
-    ensures { (lease : Lease) → lease_of range.now.log.entries ≡ Some lease → result ≡ made.ShowRange number
-        lease.seq lease.holder lease.expiration (closed_of range.now.log.entries) (length range.now.log.entries) }
+    ensures { (lease : Lease) × (lease_of range.now.log.entries ≡ Some lease) × (result ≡ made.ShowRange number
+        lease.seq lease.holder lease.expiration (closed_of range.now.log.entries) (length range.now.log.entries)) }
 {
     let log = range.log();
     let lease = log.lease();

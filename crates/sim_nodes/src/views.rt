@@ -1,18 +1,21 @@
-//! Lines that show nodes and messages, as the layers above ask for them.
+//! Lines that show nodes, ranges and messages, as the layers above ask for them.
 
-ghost use Rattle.std.specs.Prelude.{◌≡◌, ◌∷◌, [], OnErr, OnOk, false};
+ghost use Rattle.std.specs.Prelude.{◌≡◌, ◌≢◌, ◌∷◌, [], OnErr, OnOk, Some, false, length};
 ghost use Rattle.journal.specs.declared.entries.JournalEntry.TheVariants as made;
 ghost use Rattle.journal.specs.declared.events.Event.TheVariants as events;
+ghost use Rattle.range_log.specs.Facts.{closed_of, lease_of};
+ghost use Rattle.range_log.specs.declared.entries.Lease.{Lease};
 ghost use Rattle.run_laws.specs.OrderEvents.{IsFirstAt};
 ghost use Rattle.run_words.specs.Clocks.{reading};
 ghost use Rattle.run_words.specs.History.{Made};
+ghost use Rattle.run_words.specs.Logs.{log_of};
 ghost use Rattle.run_words.specs.Messages.{flight};
 ghost use Rattle.run_words.specs.Nodes.{boot, is_running};
 ghost use Rattle.sim_nodes.specs.NodesValue.{ended_as, setup, with_items};
 ghost use Rattle.sim_nodes.specs.Tied.{IsThere};
 
 use crate::nodes::Nodes;
-use mr_base::{Memory, NodeId};
+use mr_base::{Memory, NodeId, RangeId};
 
 impl Nodes {
     /// Shows a node: its reading, whether it runs, and at which boot it is.
@@ -41,6 +44,23 @@ impl Nodes {
     {
         self.ended = true;
         self.state.show_flight(self.alloc)?;
+        self.ended = false;
+        Ok(())
+    }
+
+    /// Shows a range, by its whole log: its last lease, what it has closed, and how many entries it has.
+    pub fn show_range(&mut self, range: RangeId) -> Result<(), Memory>
+        requires open { self.old.ended ≡ false }
+        requires due { IsFirstAt self.old.history (events.ShowRange range) }
+        requires made { log_of (setup self.old) self.old.history range ≢ [] }
+        ensures made { OnOk result ((lease : Lease) × (lease_of (log_of (setup self.old) self.old.history range) ≡ Some lease)
+            × (self.new ≡ with_items (Made (made.ShowRange range lease.seq lease.holder lease.expiration
+            (closed_of (log_of (setup self.old) self.old.history range))
+            (length (log_of (setup self.old) self.old.history range))) ∷ []) self.old)) }
+        ensures err { OnErr result (self.new ≡ ended_as self.old) }
+    {
+        self.ended = true;
+        self.state.show_range(range)?;
         self.ended = false;
         Ok(())
     }
