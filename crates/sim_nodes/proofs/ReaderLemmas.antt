@@ -6,10 +6,10 @@ use Rattle.node_states.specs.declared.states.NodeState.{NodeState}
 use Rattle.run_words.specs.Clocks.{reading}
 use Rattle.run_words.specs.Nodes.{boot, is_running}
 use Rattle.run_words.specs.Transactions.{attempts}
-use Rattle.sim_nodes.proofs.NodeAt.{id_at, reading_at, runs_at, tied_at}
+use Rattle.cluster_state.proofs.NodeAt.{id_at, reading_at, runs_at, tied_at}
 use Rattle.sim_nodes.specs.NodesValue.{IsKept, NodesValue, setup}
-use Rattle.sim_nodes.specs.Tied.{IsThere, IsTied, past, the_setup}
-use Rattle.sim_nodes.specs.declared.state.State.{State}
+use Rattle.cluster_state.specs.Tied.{IsThere, IsTied, past, the_setup}
+use Rattle.cluster_state.specs.declared.state.State.{State}
 
 abbrev pub value_of : State → Bool → NodesValue
 value_of s ended = record { stage = s.stage; history = past s; ended = ended }

@@ -4,8 +4,8 @@ use Rattle.node_states.specs.Stage.{setup_of}
 use Rattle.node_states.specs.declared.stage.Stage.{Stage}
 use Rattle.run_words.specs.History.{History}
 use Rattle.run_words.specs.Setup.{Setup}
-use Rattle.sim_nodes.specs.Tied.{IsTied, past, the_setup}
-use Rattle.sim_nodes.specs.declared.state.State.{State}
+use Rattle.cluster_state.specs.Tied.{IsTied, past, the_setup}
+use Rattle.cluster_state.specs.declared.state.State.{State}
 
 -- The nodes as contracts see them: with what they began, what has happened, and whether a call has failed for want of
 -- memory, after which there is none.

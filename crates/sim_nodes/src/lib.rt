@@ -3,26 +3,12 @@
 #![tactic(auto)]
 
 mod acts;
-mod applying;
-mod attempts;
-mod beginnings;
 mod ended_txns;
-mod endings;
-mod first_state;
-mod handling;
-mod hints;
-mod leases;
-mod lines;
-mod mails;
-mod making;
 mod network;
 mod nodes;
 mod readers;
 mod requests;
-mod serving;
-mod shows;
-mod state;
 mod views;
 
-pub use beginnings::Begun;
+pub use cluster_state::Begun;
 pub use nodes::Nodes;

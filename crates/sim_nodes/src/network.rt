@@ -14,7 +14,7 @@ ghost use Rattle.run_words.specs.History.{Made};
 ghost use Rattle.run_words.specs.Logs.{log_of};
 ghost use Rattle.run_words.specs.Messages.{messages};
 ghost use Rattle.sim_nodes.specs.NodesValue.{ended_as, setup, with_items};
-ghost use Rattle.sim_nodes.specs.Tied.{IsThere};
+ghost use Rattle.cluster_state.specs.Tied.{IsThere};
 
 use crate::nodes::Nodes;
 use mr_base::{Memory, MsgId, NodeId, Request, TxnId};

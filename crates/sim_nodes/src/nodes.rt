@@ -8,7 +8,7 @@ ghost use Rattle.run_words.specs.History.{Made};
 ghost use Rattle.sim_nodes.specs.NodesValue.{ended_as, setup, with_items};
 ghost use Rattle.node_states.specs.Placed.{KeepsLaws};
 
-use crate::state::State;
+use cluster_state::State;
 use mr_base::{AttemptId, Fate, Memory};
 use std::alloc::Global;
 use std::marker::Model;

@@ -8,10 +8,10 @@ ghost use Rattle.run_words.specs.Nodes.{boot, is_running};
 ghost use Rattle.run_words.specs.Steps.{event_of, has_entry};
 ghost use Rattle.run_words.specs.Transactions.{attempts};
 ghost use Rattle.sim_nodes.specs.NodesValue.{setup};
-ghost use Rattle.sim_nodes.specs.Tied.{IsThere};
+ghost use Rattle.cluster_state.specs.Tied.{IsThere};
 
-use crate::hints::{hinted, learn_told};
 use crate::nodes::Nodes;
+use cluster_state::hints::{hinted, learn_told};
 use journal::{Event, JournalEntry};
 use mr_base::{MsgId, NodeId, RangeId, Reading};
 use request_routes::Hint;

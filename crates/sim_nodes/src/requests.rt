@@ -8,7 +8,7 @@ ghost use Rattle.run_words.specs.History.{History};
 ghost use Rattle.run_words.specs.Logs.{log_of};
 ghost use Rattle.run_words.specs.Nodes.{is_running};
 ghost use Rattle.run_words.specs.Ranges.{HoldsReplica};
-ghost use Rattle.sim_nodes.specs.Handled.{HasHandled};
+ghost use Rattle.cluster_state.specs.Handled.{HasHandled};
 ghost use Rattle.sim_nodes.specs.NodesValue.{ended_as, setup, with_items};
 
 use crate::nodes::Nodes;

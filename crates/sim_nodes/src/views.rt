@@ -12,7 +12,7 @@ ghost use Rattle.run_words.specs.Logs.{log_of};
 ghost use Rattle.run_words.specs.Messages.{flight};
 ghost use Rattle.run_words.specs.Nodes.{boot, is_running};
 ghost use Rattle.sim_nodes.specs.NodesValue.{ended_as, setup, with_items};
-ghost use Rattle.sim_nodes.specs.Tied.{IsThere};
+ghost use Rattle.cluster_state.specs.Tied.{IsThere};
 
 use crate::nodes::Nodes;
 use mr_base::{Memory, NodeId, RangeId};

@@ -1,6 +1,6 @@
 use Rattle.std.proofs.Common.{◌∙◌, ap, sym}
-use Rattle.sim_nodes.proofs.NoRangeLemmas.{no_range_first}
-use Rattle.sim_nodes.proofs.WayLemmas.{has_begun}
+use Rattle.cluster_state.proofs.NoRangeLemmas.{no_range_first}
+use Rattle.sim_nodes.proofs.BegunLemmas.{has_begun}
 use Rattle.sim_nodes.specs.NodesValue.{NodesValue}
 use Rattle.sim_nodes.proofs.nodes.Nodes.begin.Goals as goal
 

@@ -1,9 +1,0 @@
-use Rattle.std.proofs.Common.{◌∙◌}
-use Rattle.sim_nodes.proofs.NodeAt.{reading_at}
-use Rattle.sim_nodes.specs.Tied.{past}
-use Rattle.sim_nodes.proofs.state.State.acquire.Goals as goal
-
-pub move_lease-requires-clause-clock : goal.move_lease-requires-clause-clock
-move_lease-requires-clause-clock c =
-    c.reading-clock.ensures.shown
-    ∙ reading_at c.args.self.now (past c.args.self.now) c.args.node c.index-2.result.now c.requires.tied c.requires.there c.index-2.ensures

@@ -1,5 +1,0 @@
-use Rattle.sim_nodes.specs.Making.{IsOnTheWay}
-use Rattle.sim_nodes.proofs.state.State.begin.Given as goal
-
-abbrev pub invariant-loop-place : goal.invariant-loop-place
-invariant-loop-place l = IsOnTheWay l.fn.self l.self l.place

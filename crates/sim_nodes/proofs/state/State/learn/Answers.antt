@@ -1,9 +1,0 @@
-use Rattle.std.proofs.Common.{refl}
-use Rattle.sim_nodes.proofs.QuietLemmas.{fated_keeps}
-use Rattle.sim_nodes.proofs.Written.{made_entry}
-use Rattle.sim_nodes.proofs.state.State.learn.Goals as goal
-
-pub returns-clause-made : goal.returns-clause-made
-returns-clause-made c =
-    made_entry c.args.self.now c.args.self.now refl c.reserve.new.self c.write.new.self _ _ c.in_ok-reserve.ensures.history c.write.ensures
-    (fated_keeps c.args.self.now c.args.attempt c.args.other c.args.fate c.requires.tied c.requires.stepping c.requires.own)

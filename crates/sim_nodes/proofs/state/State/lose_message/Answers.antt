@@ -1,9 +1,0 @@
-use Rattle.std.proofs.Common.{refl}
-use Rattle.sim_nodes.proofs.FlightLemmas.{dropped_keeps}
-use Rattle.sim_nodes.proofs.Written.{made_entry}
-use Rattle.sim_nodes.proofs.state.State.lose_message.Goals as goal
-
-pub returns-clause-made : goal.returns-clause-made
-returns-clause-made c =
-    made_entry c.args.self.now (record c.args.self.now { flight = c.take-lost.new.self }) refl c.reserve.new.self c.write.new.self _ _ c.in_ok-reserve.ensures.history c.write.ensures
-    (dropped_keeps c.args.self.now c.take-lost.new.self c.args.id c.requires.tied c.requires.flying c.requires.line c.take-lost.ensures.others)
